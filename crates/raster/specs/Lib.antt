@@ -1,0 +1,3 @@
+-- What the crate `raster` means.
+pub mod Pixel
+pub mod Operations
