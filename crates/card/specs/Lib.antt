@@ -1,0 +1,3 @@
+-- What the crate `card` means: document 01, "Registers".
+pub mod Registers
+pub mod Reset

@@ -1,0 +1,131 @@
+-- Document 01, "Registers": the one table, and what reading and storing by it mean.
+-- Where it differs from the manual (000) and from Linux: docs/CHIP.md.
+use mathlib.Core.Bool.{Bool, true, false, cond, _||_}
+use mathlib.Core.List.{List, [], _∷_}
+use Prim.Native.Nat.{ℕ, _^_, _-_, _%_}
+use lib.Dec.{eqb}
+use lib.ListN.{getD, set}
+use Rattle.card.specs.declared.Card.{Card}
+use Rattle.card.specs.declared.Reading.{Reading}
+use Rattle.card.specs.declared.Register.{Register}
+use Rattle.card.specs.declared.Register.the-variants.{Foreground, Background, PlaneMask, PixelMaskOnce, Mode, RasterOperation, PixelShift, PixelMask, FillMask, BlockColour, CopySource, CopyDestination, Missing}
+use Rattle.card.specs.declared.Row.{Row}
+
+abbrev word : ℕ
+word = 2 ^ 32
+
+abbrev ones : ℕ
+ones = 2 ^ 32 - 1
+
+abbrev row : ℕ → Register → ℕ → ℕ → Bool → Row
+row offset register kept reset readable =
+    record { offset = offset; register = register; kept = kept; reset = reset; readable = readable }
+
+-- offset, what it holds, the data is kept modulo, at reset, readable
+unfoldable pub table : List Row
+table =
+    row 0x0020 Foreground word 0 true
+    ∷ row 0x0024 Background word 0 true
+    ∷ row 0x0028 PlaneMask word ones true
+    ∷ row 0x002C PixelMaskOnce word ones true
+    ∷ row 0x0030 Mode word 0 true
+    ∷ row 0x0034 RasterOperation 16 3 true
+    ∷ row 0x0038 PixelShift 16 0 true
+    ∷ row 0x005C PixelMask word ones true
+    ∷ row 0x0080 FillMask word 0 true
+    ∷ row 0x0140 (BlockColour 0) word 0 true
+    ∷ row 0x0144 (BlockColour 1) word 0 true
+    ∷ row 0x0148 (BlockColour 2) word 0 true
+    ∷ row 0x014C (BlockColour 3) word 0 true
+    ∷ row 0x0150 (BlockColour 4) word 0 true
+    ∷ row 0x0154 (BlockColour 5) word 0 true
+    ∷ row 0x0158 (BlockColour 6) word 0 true
+    ∷ row 0x015C (BlockColour 7) word 0 true
+    ∷ row 0x0160 CopySource word 0 false
+    ∷ row 0x0164 CopyDestination word 0 false
+    ∷ []
+
+-- the first row of an offset, or the row of no register
+unfoldable pub rowIn : List Row → ℕ → Row
+rowIn [] offset = row offset Missing 1 0 false
+rowIn (r ∷ rs) offset = cond (eqb (r .offset) offset) r (rowIn rs offset)
+
+unfoldable pub rowAt : ℕ → Row
+rowAt offset = rowIn table offset
+
+-- what a register holds. Pixel shift only ever holds 0
+abbrev pub holds : Card → Register → ℕ
+holds c Foreground = c .foreground
+holds c Background = c .background
+holds c PlaneMask = c .plane
+holds c PixelMaskOnce = c .pixel
+holds c Mode = c .mode
+holds c RasterOperation = c .raster
+holds c PixelShift = 0
+holds c PixelMask = c .pixel
+holds c FillMask = c .fill
+holds c (BlockColour k) = getD (c .block) (k % 8) 0
+holds c CopySource = 0
+holds c CopyDestination = 0
+holds c Missing = 0
+
+-- an offset that is not listed, or is write only, answers 4 with the number 0
+unfoldable pub reading : Card → ℕ → Reading
+reading c offset =
+    cond (rowAt offset .readable) (record { number = 0; value = holds c (rowAt offset .register) }) (record { number = 4; value = 0 })
+
+-- a number for each register, to tell them apart; the eight block colours have one between them
+abbrev pub code : Register → ℕ
+code Foreground = 0
+code Background = 1
+code PlaneMask = 2
+code PixelMaskOnce = 3
+code Mode = 4
+code RasterOperation = 5
+code PixelShift = 6
+code PixelMask = 7
+code FillMask = 8
+code (BlockColour k) = 9
+code CopySource = 10
+code CopyDestination = 11
+code Missing = 12
+
+infix 40 _is_
+abbrev pub _is_ : Register → Register → Bool
+g is h = eqb (code g) (code h)
+
+-- which of the block colours
+abbrev pub index : Register → ℕ
+index Foreground = 0
+index Background = 0
+index PlaneMask = 0
+index PixelMaskOnce = 0
+index Mode = 0
+index RasterOperation = 0
+index PixelShift = 0
+index PixelMask = 0
+index FillMask = 0
+index (BlockColour k) = k
+index CopySource = 0
+index CopyDestination = 0
+index Missing = 0
+
+-- the card with v stored in a register: a write at 002Ch also marks the pixel mask one-shot, one at 005Ch unmarks it;
+-- a pixel-shift write returns the copy direction to "read source"
+unfoldable pub stores : Card → Register → ℕ → Card
+stores c g v =
+    record {
+      foreground = cond (g is Foreground) v (c .foreground);
+      background = cond (g is Background) v (c .background);
+      plane = cond (g is PlaneMask) v (c .plane);
+      pixel = cond (g is PixelMaskOnce || g is PixelMask) v (c .pixel);
+      mode = cond (g is Mode) v (c .mode);
+      raster = cond (g is RasterOperation) v (c .raster);
+      fill = cond (g is FillMask) v (c .fill);
+      block = cond (g is BlockColour 0) (set (c .block) (index g % 8) v) (c .block);
+      buffer = c .buffer;
+      marked = cond (g is PixelMaskOnce) true (cond (g is PixelMask) false (c .marked));
+      loaded = c .loaded;
+      writing = cond (g is PixelShift) false (c .writing);
+      held = c .held;
+    }

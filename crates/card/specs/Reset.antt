@@ -1,0 +1,26 @@
+-- Document 01, "Registers", the column "At reset" and the paragraph on reset.
+use mathlib.Core.Bool.{false}
+use Prim.Native.Nat.{ℕ}
+use lib.ListN.{replicate}
+use Rattle.card.specs.declared.Card.{Card}
+use Rattle.card.specs.Registers.{rowAt}
+
+-- every register as the table has it; the copy buffer zeros and unloaded, the direction "read source".
+-- The held planes H (document 01's own term) are chosen here, and no write can change them
+unfoldable pub resetCard : ℕ → Card
+resetCard h =
+    record {
+      foreground = rowAt 0x0020 .reset;
+      background = rowAt 0x0024 .reset;
+      plane = rowAt 0x0028 .reset;
+      pixel = rowAt 0x005C .reset;
+      mode = rowAt 0x0030 .reset;
+      raster = rowAt 0x0034 .reset;
+      fill = rowAt 0x0080 .reset;
+      block = replicate 8 (rowAt 0x0140 .reset);
+      buffer = replicate 64 0;
+      marked = false;
+      loaded = false;
+      writing = false;
+      held = h;
+    }

@@ -1,0 +1,8 @@
+-- The laws of fragments, over any fragments at all; then those of the strokes and of their tables.
+pub mod Painted
+pub mod Drawn
+pub mod Counted
+pub mod Listed
+pub mod Pattern
+pub mod Reducing
+pub mod Turn

@@ -1,0 +1,161 @@
+//! Traces: started, appended to, checked and run on both sides, whole and damaged, with several budgets.
+
+use super::{fresh_card, picture, same, Outcome, Pair};
+use crate::coverage::{Call, Coverage};
+use crate::damage;
+use crate::engine;
+use crate::generate::Maker;
+use crate::model::{Card, Write};
+use crate::trace::{self, ENTRY, HEADER};
+
+/// One trace: written entry by entry, checked whole and damaged, and run in pieces.
+pub fn case(maker: &mut Maker, coverage: &mut Coverage) -> Outcome {
+    let (length, _) = maker.length();
+    let entries = if maker.random.one_in(150) {
+        4094 + maker.random.below(4) as usize
+    } else {
+        maker.random.below(50) as usize
+    };
+    let writes = damage::writes(maker, length, entries);
+    written(maker, coverage, length, &writes[..entries.min(50)])?;
+    let whole = damage::whole(length, &writes);
+    lengthened(maker, coverage, &whole)?;
+    checked(coverage, &whole)?;
+    run_in_pieces(maker, coverage, &whole[HEADER..], length)?;
+    for _ in 0..3 {
+        let bad = damage::damaged(maker, &whole);
+        checked(coverage, &bad)?;
+        lengthened(maker, coverage, &bad)?;
+        run_in_pieces(maker, coverage, &bad[HEADER.min(bad.len())..], length)?;
+    }
+    Ok(())
+}
+
+/// Starts a trace in a buffer that may be too small and appends, now and then with a false length.
+fn written(maker: &mut Maker, coverage: &mut Coverage, length: usize, writes: &[Write]) -> Outcome {
+    let size = match maker.random.below(4) {
+        0 => maker.random.below(HEADER as u64 + 1) as usize,
+        1 => HEADER + maker.random.below((ENTRY * writes.len()) as u64 + 1) as usize,
+        _ => HEADER + ENTRY * writes.len() + maker.random.below(30) as usize,
+    };
+    let mut buffer = Pair::new(maker.random.bytes(size));
+    let started = trace::start(&mut buffer.model, length as u32);
+    same(
+        "start",
+        &started,
+        &engine::start(&mut buffer.engine, length as u32),
+    )?;
+    buffer.same("buffer after start")?;
+    coverage.call(Call::Start, started.0);
+    let mut used = started.1 as usize;
+    for &write in writes {
+        let wrong = maker.random.pick(&[
+            used + 1,
+            used.saturating_sub(1),
+            used + ENTRY,
+            size + 1,
+            usize::MAX,
+            0,
+        ]);
+        let claimed = if maker.random.one_in(12) { wrong } else { used };
+        let (number, longer) = appended(coverage, &mut buffer, claimed, write)?;
+        if number == 0 {
+            used = longer as usize;
+        }
+    }
+    Ok(())
+}
+
+fn appended(
+    coverage: &mut Coverage,
+    buffer: &mut Pair,
+    used: usize,
+    write: Write,
+) -> Result<(u32, u32), String> {
+    let ours = trace::append(&mut buffer.model, used, write);
+    let theirs = engine::append(&mut buffer.engine, used, write);
+    same(&format!("append of {write:X?} at {used}"), &ours, &theirs)?;
+    buffer.same("buffer after append")?;
+    coverage.call(Call::Append, ours.0);
+    Ok(ours)
+}
+
+/// Appends three entries to bytes that may be a trace already; the third never has room.
+fn lengthened(maker: &mut Maker, coverage: &mut Coverage, bytes: &[u8]) -> Outcome {
+    let mut lent = bytes.to_vec();
+    lent.extend(maker.random.bytes(3 * ENTRY - 1));
+    let mut buffer = Pair::new(lent);
+    let mut used = bytes.len();
+    for _ in 0..3 {
+        let lanes = if maker.random.one_in(20) { 16 } else { 15 };
+        let write = Write {
+            space: maker.random.byte() % 2,
+            lanes,
+            address: maker.random.word(),
+            data: maker.random.word(),
+        };
+        let (number, longer) = appended(coverage, &mut buffer, used, write)?;
+        if number == 0 {
+            used = longer as usize;
+        }
+    }
+    Ok(())
+}
+
+fn checked(coverage: &mut Coverage, bytes: &[u8]) -> Outcome {
+    let ours = trace::check(bytes);
+    same("check", &ours, &engine::check(bytes))?;
+    coverage.call(Call::Check, ours.0);
+    Ok(())
+}
+
+/// Runs a part with several budgets; after a refusal the entry is left out and the rest goes on.
+fn run_in_pieces(
+    maker: &mut Maker,
+    coverage: &mut Coverage,
+    part: &[u8],
+    length: usize,
+) -> Outcome {
+    // "The VRAM length in a trace's header isn't compared with the lent VRAM."
+    let lent = if maker.random.one_in(6) {
+        maker.length().0
+    } else {
+        length
+    };
+    let mut vram = Pair::new(picture(maker, lent));
+    let mut card = card_for_run(maker)?;
+    let mut from = 0;
+    for _ in 0..6 {
+        let random = maker.random.below(100) as u32;
+        let budget = maker.random.pick(&[0, 1, 7, 40, random, 4096, u32::MAX]);
+        let mut theirs = card.clone();
+        let ran = trace::run(&part[from..], &mut card, &mut vram.model, budget);
+        let given = engine::run(&part[from..], &mut theirs, &mut vram.engine, budget);
+        same(
+            &format!("run of {} bytes with budget {budget}", part.len() - from),
+            &ran,
+            &given,
+        )?;
+        same("card after run", &card, &theirs)?;
+        vram.same("VRAM after run")?;
+        coverage.call(Call::Run, ran.number);
+        if ran.number == 10 || ran.number == 1 {
+            return Ok(());
+        }
+        from += ran.rest as usize;
+        if ran.number != 0 {
+            from += ENTRY;
+        }
+    }
+    Ok(())
+}
+
+/// Most runs start from reset, some from another card, good or bad.
+fn card_for_run(maker: &mut Maker) -> Result<Card, String> {
+    let card = fresh_card(maker)?;
+    Ok(match maker.random.below(12) {
+        0 => maker.bad_card(&card),
+        1..=3 => maker.good_card(),
+        _ => card,
+    })
+}

@@ -1,0 +1,158 @@
+//! Counts what was reached: writes by mode or register and number, calls on traces by number, and some situations.
+
+use crate::generate::OFFSETS;
+use crate::model::mode::{self, MODES};
+use crate::model::{Card, Write, FRAME, REGISTER};
+
+const OTHER_MODE: usize = MODES.len();
+const FIRST_REGISTER: usize = OTHER_MODE + 1;
+const OTHER_REGISTER: usize = FIRST_REGISTER + OFFSETS.len();
+const OTHER_SPACE: usize = OTHER_REGISTER + 1;
+const ROWS: usize = OTHER_SPACE + 1;
+
+/// Calls on traces, with the numbers that each must have given.
+const CALLS: [(&str, &[u32]); 4] = [
+    ("start", &[0, 1, 11]),
+    ("append", &[0, 2, 10, 11]),
+    ("check", &[0, 10]),
+    ("run", &[0, 1, 2, 3, 4, 5, 6, 7, 8, 9, 10]),
+];
+
+#[derive(Clone, Copy)]
+pub enum Call {
+    Start,
+    Append,
+    Check,
+    Run,
+}
+
+/// Situations that the paper's easy slips are about.
+const SITUATIONS: [&str; 6] = [
+    "one-shot mask, accepted frame write",
+    "one-shot mask, refused frame write",
+    "copy, source read",
+    "copy, destination drawn",
+    "64-byte destination drawn in a block mode",
+    "pixels drawn with held planes",
+];
+
+pub struct Coverage {
+    writes: [[u64; 10]; ROWS],
+    traces: [[u64; 12]; 4],
+    situations: [u64; 6],
+}
+
+fn row(card: &Card, write: Write) -> usize {
+    let mode = MODES.iter().position(|&(code, _)| code == card.mode);
+    let register = OFFSETS.iter().position(|&offset| offset == write.address);
+    match write.space {
+        FRAME => mode.unwrap_or(OTHER_MODE),
+        REGISTER => register.map_or(OTHER_REGISTER, |i| FIRST_REGISTER + i),
+        _ => OTHER_SPACE,
+    }
+}
+
+fn row_name(row: usize) -> String {
+    match row {
+        OTHER_MODE => String::from("frame, mode not listed"),
+        OTHER_REGISTER => String::from("register not listed"),
+        OTHER_SPACE => String::from("space not 0 or 1"),
+        _ if row < OTHER_MODE => format!("{:02X}h {}", MODES[row].0, MODES[row].1),
+        _ => format!("register {:04X}h", OFFSETS[row - FIRST_REGISTER]),
+    }
+}
+
+impl Coverage {
+    pub fn new() -> Coverage {
+        Coverage {
+            writes: [[0; 10]; ROWS],
+            traces: [[0; 12]; 4],
+            situations: [0; 6],
+        }
+    }
+
+    /// Counts one write, made on the card as it stood before.
+    pub fn write(&mut self, card: &Card, write: Write, answer: (u32, u32)) {
+        let (number, count) = answer;
+        self.writes[row(card, write)][number as usize] += 1;
+        let frame = write.space == FRAME;
+        let copy = frame && card.mode == mode::COPY && number == 0;
+        let destination = write.space == REGISTER && write.address == 0x0164 && number == 0;
+        let met = [
+            frame && card.marked && number == 0,
+            frame && card.marked && number != 0,
+            copy && !card.writing,
+            copy && card.writing,
+            destination && mode::is_block(card.mode),
+            count > 0 && card.held != 0,
+        ];
+        for (counter, met) in self.situations.iter_mut().zip(met) {
+            *counter += u64::from(met);
+        }
+    }
+
+    pub fn call(&mut self, call: Call, number: u32) {
+        self.traces[call as usize][number as usize] += 1;
+    }
+
+    pub fn print(&self) {
+        let heading: String = (0..10).map(|number| format!("{number:>8}")).collect();
+        println!("{:<26}{heading}", "write, by number");
+        for (row, counts) in self.writes.iter().enumerate() {
+            let cells: String = counts.iter().map(|count| format!("{count:>8}")).collect();
+            println!("{:<26}{cells}", row_name(row));
+        }
+        println!(
+            "{:<26}{:>8}",
+            "all writes",
+            self.writes.iter().flatten().sum::<u64>()
+        );
+        for ((name, _), counts) in CALLS.iter().zip(&self.traces) {
+            let cells: Vec<String> = counts
+                .iter()
+                .enumerate()
+                .filter(|(_, &count)| count > 0)
+                .map(|(n, count)| format!("{n}: {count}"))
+                .collect();
+            println!("trace {name}: {}", cells.join(", "));
+        }
+        for (name, count) in SITUATIONS.iter().zip(&self.situations) {
+            println!("{name}: {count}");
+        }
+    }
+
+    /// What should have been reached and was not.
+    pub fn missing(&self) -> Vec<String> {
+        let mut missing = Vec::new();
+        for number in 0..10 {
+            if self.writes.iter().all(|counts| counts[number] == 0) {
+                missing.push(format!("number {number}"));
+            }
+        }
+        for (row, counts) in self.writes.iter().enumerate() {
+            let must_accept = row != OTHER_MODE && row < OTHER_REGISTER;
+            if must_accept && counts[0] == 0 {
+                missing.push(format!("{}, accepted", row_name(row)));
+            }
+            if counts[1..].iter().all(|&count| count == 0) {
+                missing.push(format!("{}, refused", row_name(row)));
+            }
+        }
+        for ((name, numbers), counts) in CALLS.iter().zip(&self.traces) {
+            for &number in numbers
+                .iter()
+                .filter(|&&number| counts[number as usize] == 0)
+            {
+                missing.push(format!("trace {name}, number {number}"));
+            }
+        }
+        for (name, _) in SITUATIONS
+            .iter()
+            .zip(&self.situations)
+            .filter(|(_, &count)| count == 0)
+        {
+            missing.push(String::from(*name));
+        }
+        missing
+    }
+}

@@ -1,0 +1,43 @@
+//! "Registers": what the card holds, and what reset leaves in it.
+
+#[derive(Clone, PartialEq, Eq, Debug)]
+pub struct Card {
+    pub foreground: u32,
+    pub background: u32,
+    pub plane: u32,
+    /// The pixel mask, one value for both offsets.
+    pub pixel: u32,
+    pub mode: u32,
+    pub raster: u32,
+    /// The data register, used as the fill mask.
+    pub data: u32,
+    pub block: [u32; 8],
+    pub buffer: [u8; 64],
+    /// The pixel mask is one-shot.
+    pub marked: bool,
+    /// The buffer holds a 64-byte source.
+    pub loaded: bool,
+    /// The copy direction: the next accepted copy-mode write draws the destination.
+    pub writing: bool,
+    /// The held planes H, which no write can change.
+    pub held: u8,
+}
+
+/// The table's column "At reset", and the paragraph on what else reset chooses.
+pub fn reset(held: u8) -> Card {
+    Card {
+        foreground: 0,
+        background: 0,
+        plane: 0xFFFF_FFFF,
+        pixel: 0xFFFF_FFFF,
+        mode: 0,
+        raster: 3,
+        data: 0,
+        block: [0; 8],
+        buffer: [0; 64],
+        marked: false,
+        loaded: false,
+        writing: false,
+        held,
+    }
+}

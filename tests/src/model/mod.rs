@@ -1,0 +1,50 @@
+//! A reference model of the scope paper, written from the paper alone: slow, bit by bit, and sharing nothing with the engine.
+//! Addresses and lengths are handled as u64, so nothing wraps.
+
+pub mod card;
+pub mod draw;
+pub mod mode;
+pub mod pixel;
+pub mod refusal;
+pub mod register;
+
+pub use card::{reset, Card};
+pub use register::read_register;
+
+/// One write as a console sends it.
+#[derive(Clone, Copy, PartialEq, Eq, Debug)]
+pub struct Write {
+    pub space: u8,
+    pub lanes: u8,
+    pub address: u32,
+    pub data: u32,
+}
+
+pub const FRAME: u8 = 0;
+pub const REGISTER: u8 = 1;
+
+/// "The card we stand in for": one write, answered with its number and pixel count.
+pub fn write(card: &mut Card, vram: &mut [u8], write: Write) -> (u32, u32) {
+    let number = refusal::number(card, vram.len() as u64, write);
+    if number != 0 {
+        // "A refusal returns count 0 and changes no card state and no VRAM byte."
+        return (number, 0);
+    }
+    let count = if write.space == FRAME {
+        draw::frame(card, vram, write)
+    } else {
+        register::accept(card, vram, write)
+    };
+    (0, count)
+}
+
+/// "Modes", last paragraph: read-back of n pixels from address a, its number only.
+pub fn read_back(length: u64, a: u64, n: u64) -> u32 {
+    if refusal::bad_length(length) {
+        1
+    } else if u128::from(a) + u128::from(n) > u128::from(length) {
+        8
+    } else {
+        0
+    }
+}

@@ -1,0 +1,77 @@
+//! "Modes": the eight codes, and the span that a frame write covers in each.
+
+use super::Write;
+
+pub const SIMPLE: u32 = 0x00;
+pub const OPAQUE_STIPPLE: u32 = 0x01;
+pub const TRANSPARENT_STIPPLE: u32 = 0x05;
+pub const OPAQUE_FILL: u32 = 0x21;
+pub const TRANSPARENT_FILL: u32 = 0x45;
+pub const BLOCK_STIPPLE: u32 = 0x0D;
+pub const BLOCK_FILL: u32 = 0x2D;
+pub const COPY: u32 = 0x07;
+
+/// Every mode with its name.
+pub const MODES: [(u32, &str); 8] = [
+    (SIMPLE, "simple"),
+    (OPAQUE_STIPPLE, "opaque stipple"),
+    (TRANSPARENT_STIPPLE, "transparent stipple"),
+    (OPAQUE_FILL, "opaque fill"),
+    (TRANSPARENT_FILL, "transparent fill"),
+    (BLOCK_STIPPLE, "block stipple"),
+    (BLOCK_FILL, "block fill"),
+    (COPY, "copy"),
+];
+
+/// Number 5: the register as a whole must be one of the codes, so bits 31:7 are clear in every good value.
+pub fn is_listed(value: u32) -> bool {
+    MODES.iter().any(|&(code, _)| code == value)
+}
+
+pub fn is_fill(mode: u32) -> bool {
+    mode == OPAQUE_FILL || mode == TRANSPARENT_FILL || mode == BLOCK_FILL
+}
+
+pub fn is_block(mode: u32) -> bool {
+    mode == BLOCK_STIPPLE || mode == BLOCK_FILL
+}
+
+/// The pixels that a write covers, masked or not, and the address that must lie on a boundary.
+pub struct Span {
+    pub address: u64,
+    pub boundary: u64,
+    pub first: u64,
+    pub pixels: u64,
+}
+
+/// "Frame addresses are multiples of 4, in copy mode of 8."
+pub fn frame_span(mode: u32, write: Write) -> Span {
+    let address = u64::from(write.address);
+    let boundary = if mode == COPY { 8 } else { 4 };
+    let (first, pixels) = if mode == SIMPLE {
+        (address, 4)
+    } else if is_fill(mode) {
+        // "data bits 10:0 are pixel count less one, bits 17:16 are added to the address"
+        let low = u64::from(write.data >> 16) % 4;
+        (address + low, u64::from(write.data) % 2048 + 1)
+    } else {
+        (address, 32)
+    };
+    Span {
+        address,
+        boundary,
+        first,
+        pixels,
+    }
+}
+
+/// "for the 64-byte copy of 64": the data written is the address.
+pub fn copy64_span(write: Write) -> Span {
+    let address = u64::from(write.data);
+    Span {
+        address,
+        boundary: 64,
+        first: address,
+        pixels: 64,
+    }
+}

@@ -1,0 +1,100 @@
+//! "Numbers returned": which number a write gets. Each test below is one row of the table; the lowest wins.
+
+use super::mode::{self, Span};
+use super::register::{self, Register};
+use super::{Card, Write, FRAME, REGISTER};
+
+pub const LARGEST_VRAM: u64 = 2_097_152;
+
+/// Number 1.
+pub fn bad_length(length: u64) -> bool {
+    length == 0 || length % 64 != 0 || length > LARGEST_VRAM
+}
+
+/// Number 2, which appending to a trace tests too.
+pub fn bad_form(write: Write) -> bool {
+    (write.space != FRAME && write.space != REGISTER) || write.lanes > 15
+}
+
+/// Number 3. A card handed in with an unlisted mode is in some mode other than simple.
+fn bad_lanes(card: &Card, write: Write) -> bool {
+    write.lanes != 15 && (write.space == REGISTER || card.mode != mode::SIMPLE)
+}
+
+fn register(write: Write) -> Option<Register> {
+    if write.space == REGISTER {
+        register::at(write.address)
+    } else {
+        None
+    }
+}
+
+/// Number 4.
+fn no_register(write: Write) -> bool {
+    write.space == REGISTER && register(write).is_none()
+}
+
+/// Number 5, also for a card handed in with a mode that no reset or accepted write leaves.
+fn bad_mode(card: &Card, write: Write) -> bool {
+    !mode::is_listed(card.mode)
+        || (register(write) == Some(Register::Mode) && !mode::is_listed(write.data))
+}
+
+/// Number 6, also for a card handed in with a raster operation that no reset or accepted write leaves.
+fn bad_operation(card: &Card, write: Write) -> bool {
+    let bad_write = match register(write) {
+        Some(Register::Raster) => write.data & 0x0000_0F00 != 0,
+        Some(Register::Shift) => write.data & 0x0000_000F != 0,
+        _ => false,
+    };
+    card.raster > 15 || bad_write
+}
+
+/// The span of a write that draws or loads; other register writes have none.
+fn span(card: &Card, write: Write) -> Option<Span> {
+    match register(write) {
+        Some(Register::Source) | Some(Register::Destination) => Some(mode::copy64_span(write)),
+        Some(_) => None,
+        None => Some(mode::frame_span(card.mode, write)),
+    }
+}
+
+/// Number 7.
+fn off_boundary(card: &Card, write: Write) -> bool {
+    span(card, write).is_some_and(|span| span.address % span.boundary != 0)
+}
+
+/// Number 8.
+fn outside(card: &Card, length: u64, write: Write) -> bool {
+    span(card, write).is_some_and(|span| span.first + span.pixels > length)
+}
+
+/// Number 9.
+fn nothing_loaded(card: &Card, write: Write) -> bool {
+    register(write) == Some(Register::Destination) && !card.loaded
+}
+
+/// "Where several apply, the lowest number is returned."
+pub fn number(card: &Card, length: u64, write: Write) -> u32 {
+    if bad_length(length) {
+        1
+    } else if bad_form(write) {
+        2
+    } else if bad_lanes(card, write) {
+        3
+    } else if no_register(write) {
+        4
+    } else if bad_mode(card, write) {
+        5
+    } else if bad_operation(card, write) {
+        6
+    } else if off_boundary(card, write) {
+        7
+    } else if outside(card, length, write) {
+        8
+    } else if nothing_loaded(card, write) {
+        9
+    } else {
+        0
+    }
+}

@@ -1,0 +1,90 @@
+//! "Registers": the offsets, what an accepted register write leaves, and what a read gives.
+
+use super::{draw, Card, Write};
+
+#[derive(Clone, Copy, PartialEq, Eq, Debug)]
+pub enum Register {
+    Foreground,
+    Background,
+    Plane,
+    PixelOnce,
+    Mode,
+    Raster,
+    Shift,
+    PixelLasting,
+    Data,
+    Block(usize),
+    Source,
+    Destination,
+}
+
+/// The table of offsets.
+pub fn at(offset: u32) -> Option<Register> {
+    match offset {
+        0x0020 => Some(Register::Foreground),
+        0x0024 => Some(Register::Background),
+        0x0028 => Some(Register::Plane),
+        0x002C => Some(Register::PixelOnce),
+        0x0030 => Some(Register::Mode),
+        0x0034 => Some(Register::Raster),
+        0x0038 => Some(Register::Shift),
+        0x005C => Some(Register::PixelLasting),
+        0x0080 => Some(Register::Data),
+        0x0140 => Some(Register::Block(0)),
+        0x0144 => Some(Register::Block(1)),
+        0x0148 => Some(Register::Block(2)),
+        0x014C => Some(Register::Block(3)),
+        0x0150 => Some(Register::Block(4)),
+        0x0154 => Some(Register::Block(5)),
+        0x0158 => Some(Register::Block(6)),
+        0x015C => Some(Register::Block(7)),
+        0x0160 => Some(Register::Source),
+        0x0164 => Some(Register::Destination),
+        _ => None,
+    }
+}
+
+/// An accepted register write; the count is 0 unless it draws.
+pub fn accept(card: &mut Card, vram: &mut [u8], write: Write) -> u32 {
+    match at(write.address).expect("an accepted register write has a register") {
+        Register::Foreground => card.foreground = write.data,
+        Register::Background => card.background = write.data,
+        Register::Plane => card.plane = write.data,
+        Register::PixelOnce => {
+            // "A write at 002Ch also marks it one-shot"
+            card.pixel = write.data;
+            card.marked = true;
+        }
+        Register::Mode => card.mode = write.data,
+        // "Raster-operation bits 31:12 and 7:4 ... are ignored and read as zero."
+        Register::Raster => card.raster = write.data % 16,
+        // "A pixel-shift write returns the direction to read source"; its own value can only be 0.
+        Register::Shift => card.writing = false,
+        Register::PixelLasting => {
+            // "a write at 005Ch unmarks it"
+            card.pixel = write.data;
+            card.marked = false;
+        }
+        Register::Data => card.data = write.data,
+        Register::Block(i) => card.block[i] = write.data,
+        Register::Source => draw::load64(card, vram, write),
+        Register::Destination => return draw::unload64(card, vram, write),
+    }
+    0
+}
+
+/// A register read: number and value. "Reading an offset not listed, 0160h or 0164h answers 4 with the number 0."
+pub fn read_register(card: &Card, offset: u32) -> (u32, u32) {
+    match at(offset) {
+        Some(Register::Foreground) => (0, card.foreground),
+        Some(Register::Background) => (0, card.background),
+        Some(Register::Plane) => (0, card.plane),
+        Some(Register::PixelOnce) | Some(Register::PixelLasting) => (0, card.pixel),
+        Some(Register::Mode) => (0, card.mode),
+        Some(Register::Raster) => (0, card.raster),
+        Some(Register::Shift) => (0, 0),
+        Some(Register::Data) => (0, card.data),
+        Some(Register::Block(i)) => (0, card.block[i]),
+        Some(Register::Source) | Some(Register::Destination) | None => (4, 0),
+    }
+}

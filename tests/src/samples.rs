@@ -1,0 +1,250 @@
+//! "Samples": S1 to S12 and the two sizes to be run as tests, with the values that the scope paper gives.
+
+use crate::model::{self, pixel, Card, Write};
+use crate::trace;
+
+/// A write with the number it must answer and, where the paper says it, its count.
+struct Step(u8, u8, u32, u32, u32, Option<u32>);
+
+struct Sample {
+    name: &'static str,
+    held: u8,
+    /// The picture before: its length and the byte at each place.
+    length: usize,
+    before: fn(usize) -> u8,
+    steps: &'static [Step],
+    /// Where the picture differs from the one before, and the bytes there.
+    after: &'static [(usize, &'static [u8])],
+}
+
+fn zeros(_: usize) -> u8 {
+    0
+}
+
+fn ones(_: usize) -> u8 {
+    0xFF
+}
+
+fn index_to_31(p: usize) -> u8 {
+    if p < 32 {
+        p as u8
+    } else {
+        0
+    }
+}
+
+/// "all from reset, H = 0, VRAM of 64 zeros unless said"; nothing changes unless said.
+const PLAIN: Sample = Sample {
+    name: "",
+    held: 0,
+    length: 64,
+    before: zeros,
+    steps: &[],
+    after: &[],
+};
+
+const SAMPLES: &[Sample] = &[
+    Sample {
+        name: "S1",
+        steps: &[Step(0, 15, 0, 0x44332211, 0, Some(4))],
+        after: &[(0, &[0x11, 0x22, 0x33, 0x44])],
+        ..PLAIN
+    },
+    Sample {
+        name: "S2",
+        steps: &[Step(0, 5, 0, 0x44332211, 0, Some(2))],
+        after: &[(0, &[0x11, 0x00, 0x33, 0x00])],
+        ..PLAIN
+    },
+    Sample {
+        name: "S3",
+        held: 0x80,
+        before: ones,
+        steps: &[Step(0, 15, 0, 0, 0, None)],
+        after: &[(0, &[0x80, 0x80, 0x80, 0x80])],
+        ..PLAIN
+    },
+    Sample {
+        name: "S4",
+        steps: &[
+            Step(1, 15, 0x0030, 0x05, 0, Some(0)),
+            Step(1, 15, 0x0020, 0xAAAAAAAA, 0, Some(0)),
+            Step(0, 15, 32, 0x80000001, 0, Some(2)),
+        ],
+        after: &[(32, &[0xAA]), (63, &[0xAA])],
+        ..PLAIN
+    },
+    Sample {
+        name: "S5",
+        steps: &[
+            Step(1, 15, 0x0030, 0x05, 0, Some(0)),
+            Step(1, 15, 0x0020, 0xAAAAAAAA, 0, Some(0)),
+            Step(0, 15, 36, 0x80000001, 8, Some(0)),
+        ],
+        ..PLAIN
+    },
+    Sample {
+        name: "S6",
+        steps: &[
+            Step(1, 15, 0x0030, 0x21, 0, Some(0)),
+            Step(1, 15, 0x0020, 0x01010101, 0, Some(0)),
+            Step(1, 15, 0x0024, 0x02020202, 0, Some(0)),
+            Step(1, 15, 0x0080, 0xF, 0, Some(0)),
+            Step(0, 15, 0, 0x00020005, 0, Some(6)),
+        ],
+        after: &[(2, &[1, 1, 1, 1]), (6, &[2, 2])],
+        ..PLAIN
+    },
+    Sample {
+        name: "S7",
+        steps: &[
+            Step(1, 15, 0x0030, 0x2D, 0, Some(0)),
+            Step(1, 15, 0x0140, 0x03020100, 0, Some(0)),
+            Step(1, 15, 0x0144, 0x07060504, 0, Some(0)),
+            Step(1, 15, 0x0080, 0xFFFFFFFF, 0, Some(0)),
+            Step(0, 15, 4, 3, 0, None),
+        ],
+        after: &[(4, &[4, 5, 6, 7])],
+        ..PLAIN
+    },
+    Sample {
+        name: "S8",
+        steps: &[
+            Step(1, 15, 0x0028, 0x0F, 0, Some(0)),
+            Step(0, 15, 0, 0xFFFFFFFF, 0, Some(4)),
+        ],
+        after: &[(0, &[0x0F, 0, 0, 0])],
+        ..PLAIN
+    },
+    Sample {
+        name: "S10",
+        before: index_to_31,
+        steps: &[
+            Step(1, 15, 0x0030, 0x07, 0, Some(0)),
+            Step(0, 15, 0, 0xFFFFFFFF, 0, Some(0)),
+            Step(0, 15, 32, 0xFFFF, 0, Some(16)),
+        ],
+        after: &[(32, &[0, 1, 2, 3, 4, 5, 6, 7, 8, 9, 10, 11, 12, 13, 14, 15])],
+        ..PLAIN
+    },
+    Sample {
+        name: "S11",
+        steps: &[Step(1, 15, 0x0164, 0, 9, Some(0))],
+        ..PLAIN
+    },
+    Sample {
+        name: "VRAM of 2,097,152",
+        length: 2_097_152,
+        steps: &[Step(0, 15, 2_097_148, 0x44332211, 0, Some(4))],
+        after: &[(2_097_148, &[0x11, 0x22, 0x33, 0x44])],
+        ..PLAIN
+    },
+    Sample {
+        name: "VRAM of 2,097,216",
+        length: 2_097_216,
+        steps: &[Step(0, 15, 0, 0x44332211, 1, Some(0))],
+        ..PLAIN
+    },
+    Sample {
+        name: "a 2,048-pixel fill at 0 of VRAM 2,048, and at 4",
+        length: 2048,
+        steps: &[
+            Step(1, 15, 0x0030, 0x21, 0, Some(0)),
+            Step(0, 15, 0, 2047, 0, Some(2048)),
+            Step(0, 15, 4, 2047, 8, Some(0)),
+        ],
+        ..PLAIN
+    },
+];
+
+/// S9: a, b and the composite of a then b.
+const COMPOSITES: [(u32, u32, u32); 4] = [(6, 6, 5), (3, 6, 0), (1, 7, 3), (6, 1, 2)];
+
+/// S12, whole.
+const TRACE: [u8; 28] = [
+    0x01, 0x00, 0x00, 0x00, 0x10, 0x00, 0x00, 0x00, 0x40, 0x00, 0x00, 0x00, 0x1C, 0x00, 0x00, 0x00,
+    0x00, 0x0F, 0x00, 0x00, 0x00, 0x00, 0x00, 0x00, 0x11, 0x22, 0x33, 0x44,
+];
+
+/// Runs every sample on the model and counts them.
+pub fn check_all() -> Result<usize, String> {
+    for sample in SAMPLES {
+        check_one(sample).map_err(|why| format!("{}: {why}", sample.name))?;
+    }
+    check_composites()?;
+    check_trace()?;
+    Ok(SAMPLES.len() + 2)
+}
+
+fn check_one(sample: &Sample) -> Result<(), String> {
+    let mut card = model::reset(sample.held);
+    let mut vram: Vec<u8> = (0..sample.length).map(sample.before).collect();
+    let mut expected = vram.clone();
+    for step in sample.steps {
+        check_step(&mut card, &mut vram, step)?;
+    }
+    for (at, bytes) in sample.after {
+        expected[*at..*at + bytes.len()].copy_from_slice(bytes);
+    }
+    match (0..vram.len()).find(|&p| vram[p] != expected[p]) {
+        None => Ok(()),
+        Some(p) => Err(format!(
+            "pixel {p} is {:02X}, expected {:02X}",
+            vram[p], expected[p]
+        )),
+    }
+}
+
+fn check_step(card: &mut Card, vram: &mut [u8], step: &Step) -> Result<(), String> {
+    let &Step(space, lanes, address, data, number, count) = step;
+    let answer = model::write(
+        card,
+        vram,
+        Write {
+            space,
+            lanes,
+            address,
+            data,
+        },
+    );
+    let expected = (number, count.unwrap_or(answer.1));
+    if answer == expected {
+        Ok(())
+    } else {
+        Err(format!(
+            "write at {address:X} of {data:X} answers {answer:?}, expected {expected:?}"
+        ))
+    }
+}
+
+fn check_composites() -> Result<(), String> {
+    match COMPOSITES
+        .iter()
+        .find(|&&(a, b, both)| pixel::composite(a, b) != both)
+    {
+        None => Ok(()),
+        Some(&(a, b, both)) => Err(format!(
+            "S9: {a},{b} is {}, expected {both}",
+            pixel::composite(a, b)
+        )),
+    }
+}
+
+fn check_trace() -> Result<(), String> {
+    let mut buffer = [0xEE; 28];
+    let started = trace::start(&mut buffer, 64);
+    let appended = trace::append(
+        &mut buffer,
+        16,
+        Write {
+            space: 0,
+            lanes: 15,
+            address: 0,
+            data: 0x44332211,
+        },
+    );
+    if (started, appended) != ((0, 16), (0, 28)) || buffer != TRACE {
+        return Err(format!("S12: {started:?}, {appended:?}, {buffer:02X?}"));
+    }
+    Ok(())
+}
