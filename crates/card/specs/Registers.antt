@@ -11,9 +11,6 @@ use Rattle.card.specs.declared.Register.{Register}
 use Rattle.card.specs.declared.Register.the-variants.{Foreground, Background, PlaneMask, PixelMaskOnce, Mode, RasterOperation, PixelShift, PixelMask, FillMask, BlockColour, CopySource, CopyDestination, Missing}
 use Rattle.card.specs.declared.Row.{Row}
 
-abbrev word : ℕ
-word = 2 ^ 32
-
 abbrev ones : ℕ
 ones = 2 ^ 32 - 1
 
@@ -21,33 +18,33 @@ abbrev row : ℕ → Register → ℕ → ℕ → Bool → Row
 row offset register kept reset readable =
     record { offset = offset; register = register; kept = kept; reset = reset; readable = readable }
 
--- offset, what it holds, the data is kept modulo, at reset, readable
+-- offset, what it holds, the bits kept, at reset, readable
 unfoldable pub table : List Row
 table =
-    row 0x0020 Foreground word 0 true
-    ∷ row 0x0024 Background word 0 true
-    ∷ row 0x0028 PlaneMask word ones true
-    ∷ row 0x002C PixelMaskOnce word ones true
-    ∷ row 0x0030 Mode word 0 true
-    ∷ row 0x0034 RasterOperation 16 3 true
-    ∷ row 0x0038 PixelShift 16 0 true
-    ∷ row 0x005C PixelMask word ones true
-    ∷ row 0x0080 FillMask word 0 true
-    ∷ row 0x0140 (BlockColour 0) word 0 true
-    ∷ row 0x0144 (BlockColour 1) word 0 true
-    ∷ row 0x0148 (BlockColour 2) word 0 true
-    ∷ row 0x014C (BlockColour 3) word 0 true
-    ∷ row 0x0150 (BlockColour 4) word 0 true
-    ∷ row 0x0154 (BlockColour 5) word 0 true
-    ∷ row 0x0158 (BlockColour 6) word 0 true
-    ∷ row 0x015C (BlockColour 7) word 0 true
-    ∷ row 0x0160 CopySource word 0 false
-    ∷ row 0x0164 CopyDestination word 0 false
+    row 0x0020 Foreground ones 0 true
+    ∷ row 0x0024 Background ones 0 true
+    ∷ row 0x0028 PlaneMask ones ones true
+    ∷ row 0x002C PixelMaskOnce ones ones true
+    ∷ row 0x0030 Mode ones 0 true
+    ∷ row 0x0034 RasterOperation 0xF 3 true
+    ∷ row 0x0038 PixelShift 0xF 0 true
+    ∷ row 0x005C PixelMask ones ones true
+    ∷ row 0x0080 FillMask ones 0 true
+    ∷ row 0x0140 (BlockColour 0) ones 0 true
+    ∷ row 0x0144 (BlockColour 1) ones 0 true
+    ∷ row 0x0148 (BlockColour 2) ones 0 true
+    ∷ row 0x014C (BlockColour 3) ones 0 true
+    ∷ row 0x0150 (BlockColour 4) ones 0 true
+    ∷ row 0x0154 (BlockColour 5) ones 0 true
+    ∷ row 0x0158 (BlockColour 6) ones 0 true
+    ∷ row 0x015C (BlockColour 7) ones 0 true
+    ∷ row 0x0160 CopySource ones 0 false
+    ∷ row 0x0164 CopyDestination ones 0 false
     ∷ []
 
 -- the first row of an offset, or the row of no register
 unfoldable pub rowIn : List Row → ℕ → Row
-rowIn [] offset = row offset Missing 1 0 false
+rowIn [] offset = row offset Missing 0 0 false
 rowIn (r ∷ rs) offset = cond (eqb (r .offset) offset) r (rowIn rs offset)
 
 unfoldable pub rowAt : ℕ → Row

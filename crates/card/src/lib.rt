@@ -21,11 +21,11 @@ pub enum Register {
     Missing,
 }
 
-// A row of the register table: a write keeps the data modulo `kept`.
+// A row of the register table. `kept` is the mask of the bits that a write keeps.
 pub struct Row {
     pub offset: u32,
     pub register: Register,
-    pub kept: u64,
+    pub kept: u32,
     pub reset: u32,
     pub readable: bool,
 }
@@ -66,8 +66,6 @@ pub struct Reading {
     pub value: u32,
 }
 
-const WORD: u64 = 0x1_0000_0000;
-
 const ONES: u32 = 0xFFFF_FFFF;
 
 // The rows of specs/Registers.antt.
@@ -75,133 +73,133 @@ const TABLE: [Row; 19] = [
     Row {
         offset: 0x0020,
         register: Register::Foreground,
-        kept: WORD,
+        kept: ONES,
         reset: 0,
         readable: true,
     },
     Row {
         offset: 0x0024,
         register: Register::Background,
-        kept: WORD,
+        kept: ONES,
         reset: 0,
         readable: true,
     },
     Row {
         offset: 0x0028,
         register: Register::PlaneMask,
-        kept: WORD,
+        kept: ONES,
         reset: ONES,
         readable: true,
     },
     Row {
         offset: 0x002C,
         register: Register::PixelMaskOnce,
-        kept: WORD,
+        kept: ONES,
         reset: ONES,
         readable: true,
     },
     Row {
         offset: 0x0030,
         register: Register::Mode,
-        kept: WORD,
+        kept: ONES,
         reset: 0,
         readable: true,
     },
     Row {
         offset: 0x0034,
         register: Register::RasterOperation,
-        kept: 16,
+        kept: 0xF,
         reset: 3,
         readable: true,
     },
     Row {
         offset: 0x0038,
         register: Register::PixelShift,
-        kept: 16,
+        kept: 0xF,
         reset: 0,
         readable: true,
     },
     Row {
         offset: 0x005C,
         register: Register::PixelMask,
-        kept: WORD,
+        kept: ONES,
         reset: ONES,
         readable: true,
     },
     Row {
         offset: 0x0080,
         register: Register::FillMask,
-        kept: WORD,
+        kept: ONES,
         reset: 0,
         readable: true,
     },
     Row {
         offset: 0x0140,
         register: Register::BlockColour(0),
-        kept: WORD,
+        kept: ONES,
         reset: 0,
         readable: true,
     },
     Row {
         offset: 0x0144,
         register: Register::BlockColour(1),
-        kept: WORD,
+        kept: ONES,
         reset: 0,
         readable: true,
     },
     Row {
         offset: 0x0148,
         register: Register::BlockColour(2),
-        kept: WORD,
+        kept: ONES,
         reset: 0,
         readable: true,
     },
     Row {
         offset: 0x014C,
         register: Register::BlockColour(3),
-        kept: WORD,
+        kept: ONES,
         reset: 0,
         readable: true,
     },
     Row {
         offset: 0x0150,
         register: Register::BlockColour(4),
-        kept: WORD,
+        kept: ONES,
         reset: 0,
         readable: true,
     },
     Row {
         offset: 0x0154,
         register: Register::BlockColour(5),
-        kept: WORD,
+        kept: ONES,
         reset: 0,
         readable: true,
     },
     Row {
         offset: 0x0158,
         register: Register::BlockColour(6),
-        kept: WORD,
+        kept: ONES,
         reset: 0,
         readable: true,
     },
     Row {
         offset: 0x015C,
         register: Register::BlockColour(7),
-        kept: WORD,
+        kept: ONES,
         reset: 0,
         readable: true,
     },
     Row {
         offset: 0x0160,
         register: Register::CopySource,
-        kept: WORD,
+        kept: ONES,
         reset: 0,
         readable: false,
     },
     Row {
         offset: 0x0164,
         register: Register::CopyDestination,
-        kept: WORD,
+        kept: ONES,
         reset: 0,
         readable: false,
     },
@@ -222,7 +220,7 @@ pub fn find(offset: u32) -> Row
     Row {
         offset,
         register: Register::Missing,
-        kept: 1,
+        kept: 0,
         reset: 0,
         readable: false,
     }

@@ -30,7 +30,7 @@ all-below (suc n) p t k h = go (decLt k n) (all-below n p (right (p n) (allBelow
     go (yes l) below = below l
     go (no l) below = subst (λ (m : ℕ). T (p m)) (omega arith) (left (p n) (allBelow n p) t)
 
-is-true : (b : Bool) → T b → b ≡ true
+pub is-true : (b : Bool) → T b → b ≡ true
 is-true true t = refl
 is-true false t = absurd t
 

@@ -1,12 +1,13 @@
 -- The list of f 0 to f (n - 1), and a loop that fills an array with it, one store a turn: after i turns it is `listed i f ++ drop i xs`.
 -- Assumes nothing.
-use mathlib.Core.Path.{_≡_, refl, ap, ap₂, _∙_}
+use mathlib.Core.Path.{_≡_, refl, ap, ap₂, sym, _∙_}
 use mathlib.Core.List.{List, [], _∷_, _++_, append-nil}
-use Prim.Native.Nat.{ℕ, zero, suc, _+_, _<_}
-use native.Mathlib.Nat.{le-of-suc-le-suc, not-suc-le-zero}
+use Prim.Native.Nat.{ℕ, zero, suc, _+_, _≤_, _<_, suc-le-suc}
+use native.Mathlib.Nat.{le-of-suc-le-suc, not-suc-le-zero, zero-lt-suc}
 use native.Mathlib.Numerals.{add-one}
 use native.Mathlib.Omega.{arith}
-use lib.ListN.{length, getD, drop, set, drop-of-length-le}
+use lib.ListN.{length, getD, take, drop, set, length-drop, drop-of-length-le}
+use lib.Seq.{ext-getD, length-take-le, getD-take, getD-drop}
 use Rattle.span.specs.Fragments.{listed}
 
 pub listed-length : (n : ℕ) (f : ℕ → ℕ) → length (listed n f) ≡ n
@@ -43,3 +44,20 @@ listed-all n i f xs e l q =
     q
     ∙ (ap (λ (m : ℕ). listed m f ++ drop m xs) e
     ∙ (ap (λ (t : List ℕ). listed n f ++ t) (drop-of-length-le xs {i = n} (omega arith)) ∙ append-nil (listed n f)))
+
+-- two functions that agree below n list the same
+pub listed-same : (n : ℕ) {f g : ℕ → ℕ} → ((k : ℕ) → k < n → f k ≡ g k) → listed n f ≡ listed n g
+unfolding listed
+listed-same zero e = refl
+listed-same (suc n) {f} {g} e =
+    ap₂ (λ (x : ℕ) (xs : List ℕ). x ∷ xs) (e 0 (zero-lt-suc n))
+    (listed-same n {f = λ k. f (suc k)} {g = λ k. g (suc k)} (λ k h. e (suc k) (suc-le-suc h)))
+
+-- a part of a list, element by element
+pub listed-part : (n a : ℕ) (v : List ℕ) → a + n ≤ length v → listed n (λ k. getD v (a + k) 0) ≡ take n (drop a v)
+listed-part n a v h =
+    ext-getD 0 _ _ (listed-length n (λ k. getD v (a + k) 0) ∙ sym (length-take-le n (drop a v) (simp length-drop (omega arith))))
+    (λ i l. each i (rw (listed-length n (λ k. getD v (a + k) 0)) at l))
+  where
+    each : (i : ℕ) → i < n → getD (listed n (λ k. getD v (a + k) 0)) i 0 ≡ getD (take n (drop a v)) i 0
+    each i l = listed-at n (λ k. getD v (a + k) 0) i l ∙ sym (getD-take n (drop a v) i 0 l ∙ getD-drop a v i 0)

@@ -1,0 +1,11 @@
+-- The laws of the engine, and the demands as theorems.
+pub mod Tests
+pub mod Arrays
+pub mod Words
+pub mod Sources
+pub mod Spans
+pub mod NextCard
+pub mod Outcome
+pub mod Drawing
+pub mod Copy64
+pub mod Backwards

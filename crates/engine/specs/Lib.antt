@@ -1,0 +1,7 @@
+-- What the crate `engine` means: document 01, "Numbers returned", "How one pixel is made" and "Modes".
+pub mod Modes
+pub mod Refusal
+pub mod Writes
+pub mod Brush
+pub mod ReadBack
+pub mod Contract
