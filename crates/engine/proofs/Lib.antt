@@ -9,3 +9,9 @@ pub mod Outcome
 pub mod Drawing
 pub mod Copy64
 pub mod Backwards
+pub mod Counting
+pub mod Demand1
+pub mod Demand2
+pub mod Demand3
+pub mod Witness
+pub mod Samples

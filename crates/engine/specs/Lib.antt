@@ -5,3 +5,4 @@ pub mod Writes
 pub mod Brush
 pub mod ReadBack
 pub mod Contract
+pub mod Sequences
