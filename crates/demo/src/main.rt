@@ -1,0 +1,277 @@
+// The demonstration: a bedside screen of 256 by 256 pixels, drawn through the engine's writes alone.
+// The alarm border stands in plane 7. A card that holds every other plane draws it, and the card that draws all the rest holds
+// plane 7, so its grey fill leaves the border. A caliper is drawn by exclusive-or and taken off the same way.
+// With a name as argument it also writes the picture there, as a PGM.
+use card::Card;
+use card::Write;
+use libc::STDOUT_FILENO;
+
+// One beat of the trace: for each of 64 columns the top row and the number of rows.
+const TOPS: [u8; 64] = [
+    170,
+    170,
+    170,
+    170,
+    170,
+    170,
+    170,
+    169,
+    167,
+    165,
+    163,
+    162,
+    162,
+    163,
+    165,
+    167,
+    169,
+    170,
+    170,
+    170,
+    172,
+    170,
+    138,
+    96,
+    96,
+    138,
+    173,
+    176,
+    170,
+    170,
+    170,
+    169,
+    169,
+    167,
+    165,
+    163,
+    160,
+    157,
+    155,
+    154,
+    154,
+    155,
+    157,
+    160,
+    163,
+    165,
+    167,
+    169,
+    169,
+    170,
+    170,
+    170,
+    170,
+    170,
+    170,
+    170,
+    170,
+    170,
+    170,
+    170,
+    170,
+    170,
+    170,
+    170,
+];
+
+const ROWS: [u8; 64] = [
+    2,
+    2,
+    2,
+    2,
+    2,
+    2,
+    2,
+    3,
+    4,
+    4,
+    4,
+    3,
+    3,
+    4,
+    4,
+    4,
+    3,
+    2,
+    2,
+    4,
+    8,
+    10,
+    34,
+    44,
+    44,
+    37,
+    15,
+    12,
+    8,
+    2,
+    2,
+    3,
+    2,
+    4,
+    4,
+    4,
+    5,
+    5,
+    4,
+    3,
+    3,
+    4,
+    5,
+    5,
+    4,
+    4,
+    4,
+    2,
+    3,
+    2,
+    2,
+    2,
+    2,
+    2,
+    2,
+    2,
+    2,
+    2,
+    2,
+    2,
+    2,
+    2,
+    2,
+    2,
+];
+
+fn register(card: Card, offset: u32, data: u32, vram: &mut [u8]) -> Card {
+    let w = Write {
+        space: 1,
+        lanes: 15,
+        address: offset,
+        data,
+    };
+    let a = engine::write(card, w, vram);
+    a.card
+}
+
+// One row of an opaque fill: `width` pixels from column x of row y on, in the foreground colour.
+fn row(card: Card, x: u8, y: u32, width: u8, vram: &mut [u8]) -> Card {
+    let column = x as u32;
+    let w = Write {
+        space: 0,
+        lanes: 15,
+        address: y % 256 * 256 + column / 4 * 4,
+        data: column % 4 * 65536 + width as u32,
+    };
+    let a = engine::write(card, w, vram);
+    a.card
+}
+
+// A filled box of `width` + 1 columns and `rows` rows.
+fn filled(card: Card, x: u8, y: u8, width: u8, rows: u32, vram: &mut [u8]) -> Card {
+    let mut card = card;
+    let mut i: u32 = 0;
+    while i < rows {
+        card = row(card, x, y as u32 + i % 256, width, vram);
+        i += 1;
+    }
+    card
+}
+
+// Opaque fill in one colour.
+fn colour(card: Card, value: u32, vram: &mut [u8]) -> Card {
+    let card = register(card, 0x0030, 0x21, vram);
+    let card = register(card, 0x0080, 0xFFFFFFFF, vram);
+    register(card, 0x0020, value, vram)
+}
+
+fn bands(card: Card, vram: &mut [u8]) -> Card {
+    let card = filled(card, 0, 0, 255, 4, vram);
+    filled(card, 0, 252, 255, 4, vram)
+}
+
+fn sides(card: Card, vram: &mut [u8]) -> Card {
+    let card = filled(card, 0, 0, 3, 256, vram);
+    filled(card, 252, 0, 3, 256, vram)
+}
+
+// The alarm border, four pixels wide, in plane 7 alone.
+fn border(vram: &mut [u8]) {
+    let card = colour(Card::reset(0x7F), 0xFFFFFFFF, vram);
+    let card = bands(card, vram);
+    sides(card, vram);
+}
+
+fn wide(n: u8) -> u32 {
+    n as u32
+}
+
+// The trace: a column for each of 240 places.
+fn trace(card: Card, vram: &mut [u8]) -> Card {
+    let mut card = colour(card, 0x7F7F7F7F, vram);
+    let mut i: u8 = 0;
+    while i < 240 {
+        let k = (i % 64) as usize;
+        card = filled(card, i + 8, TOPS[k], 0, wide(ROWS[k]), vram);
+        i += 1;
+    }
+    card
+}
+
+// The caliper's marks: two upright lines and a bar between them.
+fn marks(card: Card, vram: &mut [u8]) -> Card {
+    let card = filled(card, 31, 60, 0, 130, vram);
+    let card = filled(card, 95, 60, 0, 130, vram);
+    filled(card, 32, 124, 62, 1, vram)
+}
+
+// The caliper, by exclusive-or.
+fn caliper(card: Card, vram: &mut [u8]) -> Card {
+    let card = register(card, 0x0034, 6, vram);
+    let card = register(card, 0x0020, 0x40404040, vram);
+    let card = marks(card, vram);
+    register(card, 0x0034, 3, vram)
+}
+
+fn line(what: &[u8], n: usize) {
+    io::write_all(STDOUT_FILENO, what);
+    io::print_decimal(STDOUT_FILENO, n as u64);
+    io::write_all(STDOUT_FILENO, b"\n");
+}
+
+// Draws the screen, and says what was drawn.
+fn screen(vram: &mut [u8; 65536]) {
+    border(vram);
+    line(b"alarm border, pixels: ", show::at_least(vram, 128));
+    let card = colour(Card::reset(0x80), 0x30303030, vram);
+    let card = filled(card, 0, 0, 255, 256, vram);
+    line(
+        b"alarm border after a grey fill of the whole screen, pixels: ",
+        show::at_least(vram, 128),
+    );
+    let card = trace(card, vram);
+    let before = *vram;
+    let card = caliper(card, vram);
+    line(
+        b"caliper drawn by exclusive-or, pixels changed: ",
+        show::differing(vram, &before),
+    );
+    if os::arg_count() > 1 {
+        save(vram);
+    }
+    caliper(card, vram);
+    line(
+        b"caliper taken off the same way, pixels left: ",
+        show::differing(vram, &before),
+    );
+}
+
+// The picture, in the file that the argument names.
+fn save(vram: &[u8]) {
+    let mut path = io::buffer();
+    let n = os::arg(1, &mut path);
+    show::picture(&path[..n], vram, 256);
+}
+
+fn main() {
+    let mut vram = [0u8; 65536];
+    screen(&mut vram);
+}

@@ -1,0 +1,71 @@
+-- The lengths of traces and the offsets within them fit 32 bits, and stand for the parts of the definitions. Assumes nothing.
+use mathlib.Core.Path.{_≡_, refl, ap, sym, _∙_}
+use mathlib.Core.Bool.{Bool, true, false, cond}
+use mathlib.Core.List.{List}
+use Prim.Native.Nat.{ℕ, _+_, _*_, _^_, _<_, _≤_}
+use native.Mathlib.Omega.{arith}
+use lib.Dec.{eqb}
+use lib.ListN.{length, drop, take, length-drop}
+use lib.Seq.{length-take-le}
+use borrow.Author.Tests.{eqb-true}
+use Rattle.card.specs.declared.Card.{Card}
+use Rattle.card.specs.declared.Write.{Write}
+use Rattle.trace.specs.Traces.{largest, entryCount, isTrace, checkNumber, checkPart}
+use Rattle.trace.specs.Recording.{startNumber, startLength, appendNumber, appendLength}
+use Rattle.trace.specs.Run.{State, outcomeOf, run, unread}
+use Rattle.trace.specs.declared.Ran.{Ran}
+use Rattle.trace.proofs.Tested.{formed, traced}
+use Rattle.trace.proofs.Checking.{good, bad}
+use Rattle.trace.proofs.RecordingTests.{appendable}
+use Rattle.trace.proofs.Demands.{outcome}
+use Rattle.host.specs.Entries.{Replayed}
+
+pub start-fits : (size vram : ℕ) {n : ℕ} → n ≡ startLength size vram → n < 2 ^ 32
+unfolding startLength
+start-fits size vram {n} e = go (eqb (startNumber size vram) 0) e
+  where
+    go : (t : Bool) → n ≡ cond t 16 0 → n < 2 ^ 32
+    go true e = omega arith
+    go false e = omega arith
+
+-- a trace has at most 16 + 12 * 4,096 bytes
+trace-fits : (v : List ℕ) → isTrace v ≡ true → length v ≤ 16 + 12 * largest
+trace-fits v e =
+    let t = formed (drop 16 v) (traced v e .entries) in
+    omega (arith, length-drop 16 v, t .whole, t .few)
+
+pub append-fits : (b : List ℕ) (used : ℕ) (w : Write) {n : ℕ} → n ≡ appendLength b used w → n < 2 ^ 32
+unfolding appendLength
+append-fits b used w {n} e = go (eqb (appendNumber b used w) 0) refl e
+  where
+    go : (t : Bool) → eqb (appendNumber b used w) 0 ≡ t → n ≡ cond t (used + 12) 0 → n < 2 ^ 32
+    go true d e =
+        let a = appendable b used w (eqb-true _ _ d) in
+        omega (arith, trace-fits (take used b) (a .trace), length-take-le used b (a .within))
+    go false d e = omega arith
+
+-- where a check answers 0, the entries are the bytes from 16 on
+pub entries-at-16 : (v : List ℕ) {n : ℕ} → n ≡ checkNumber v → n ≡ 0 → drop 16 v ≡ checkPart v
+entries-at-16 v e z = go (isTrace v) refl
+  where
+    go : (t : Bool) → isTrace v ≡ t → drop 16 v ≡ checkPart v
+    go true d = good v d .0
+    go false d = absurd (omega (arith, bad v d .1, e, z))
+
+module _ (part : List ℕ) (budget : ℕ) (c : Card) (v : List ℕ) {r : Ran} {v′ : List ℕ} (e : outcomeOf r v′ ≡ run part budget c v) where
+  pub rest-fits : 12 * r .applied < 2 ^ 32
+  rest-fits = omega (arith, outcome part budget c v .within-largest, ap (λ (s : State). s .applied) e)
+
+  -- what a run answers, with the offset of its unread part
+  pub replayed : Replayed part budget c v (record { number = r .number; entries = r .applied; pixels = r .pixels; rest = 12 * r .applied }) (r .card) v′
+  unfolding unread
+  replayed =
+      record {
+        number = ap (λ (s : State). s .number) e;
+        entries = ap (λ (s : State). s .applied) e;
+        pixels = ap (λ (s : State). s .pixels) e;
+        rest = ap (λ (s : State). 12 * s .applied) e;
+        unreads = ap (λ (s : State). drop (12 * s .applied) part) e;
+        leaves = ap (λ (s : State). s .card) e;
+        shows = ap (λ (s : State). s .picture) e;
+      }

@@ -1,0 +1,3 @@
+-- What the proofs of the entries share.
+pub mod Lent
+pub mod Lengths

@@ -1,0 +1,168 @@
+// What a C program needs: the card stands in its memory, and each entry changes it there.
+// include/zevkholtai.h declares these functions; what each means stands in specs/.
+ghost use mathlib.Core.Path.{_≡_};
+ghost use Rattle.card.specs.Reset.{resetCard};
+ghost use Rattle.host.specs.Entries.{writeOf, Wrote, Began, Grew, Looked, Replayed};
+use card::Card;
+use card::Write;
+
+// What a write answers: its number and the pixels enabled.
+#[repr(C)]
+pub struct Answer {
+    pub number: u32,
+    pub count: u32,
+}
+
+// What starting, appending and checking answer: the number, and a length in bytes.
+#[repr(C)]
+pub struct Checked {
+    pub number: u32,
+    pub length: u32,
+}
+
+// What a run answers: the number, the entries applied, the total pixels, and where the unread part begins.
+#[repr(C)]
+pub struct Ran {
+    pub number: u32,
+    pub entries: u32,
+    pub pixels: u32,
+    pub rest: u32,
+}
+
+// ---- One card, changed in place.
+
+// The card at reset, with the planes `held`.
+#[no_mangle]
+pub extern "C" fn zevkholtai_reset(card: &mut Card, held: u8)
+    ensures { λ _. ⌜ now (card .exit) ≡ resetCard held ⌝ }
+{
+    *card = Card::reset(held);
+}
+
+// One write. A refused one answers its number with count 0, and leaves the card and every byte of VRAM.
+#[no_mangle]
+pub extern "C" fn zevkholtai_write(
+    card: &mut Card,
+    space: u8,
+    lanes: u8,
+    address: u32,
+    word: u32,
+    vram: &mut [u8],
+) -> Answer
+    ensures { λ r. ⌜
+        Wrote (now (card .entry)) (writeOf space lanes address word) (now (vram .entry)) r (now (card .exit)) (now (vram .exit)) ⌝ }
+{
+    let s = write_on(*card, space, lanes, address, word, vram);
+    *card = s.card;
+    s.answer
+}
+
+// The entries of a part of a trace, until the budget or the part ends or one is refused.
+#[no_mangle]
+pub extern "C" fn zevkholtai_run(card: &mut Card, part: &[u8], vram: &mut [u8], budget: u32) -> Ran
+    ensures { λ r. ⌜
+        Replayed (now (part .entry)) budget (now (card .entry)) (now (vram .entry)) r (now (card .exit)) (now (vram .exit)) ⌝ }
+{
+    let s = run_on(*card, part, vram, budget);
+    *card = s.card;
+    s.ran
+}
+
+// ---- Traces in a buffer.
+
+// A trace of no writes for a VRAM of `vram` bytes.
+#[no_mangle]
+pub extern "C" fn zevkholtai_start(buffer: &mut [u8], vram: u32) -> Checked
+    ensures { λ r. ⌜ Began (now (buffer .entry)) vram r (now (buffer .exit)) ⌝ }
+{
+    let t = trace::start(buffer, vram);
+    let length = t.length as u32;
+    Checked {
+        number: t.number,
+        length,
+    }
+}
+
+// One write more in the trace of the buffer's first `used` bytes.
+#[no_mangle]
+pub extern "C" fn zevkholtai_append(
+    buffer: &mut [u8],
+    used: usize,
+    space: u8,
+    lanes: u8,
+    address: u32,
+    word: u32,
+) -> Checked
+    ensures { λ r. ⌜ Grew (now (buffer .entry)) used (writeOf space lanes address word) r (now (buffer .exit)) ⌝ }
+{
+    let w = Write {
+        space,
+        lanes,
+        address,
+        data: word,
+    };
+    let t = trace::append(buffer, used, w);
+    let length = t.length as u32;
+    Checked {
+        number: t.number,
+        length,
+    }
+}
+
+// Whether the bytes are a trace, and the length of VRAM that it is for.
+#[no_mangle]
+pub extern "C" fn zevkholtai_check(bytes: &[u8]) -> Checked
+    ensures { λ r. ⌜ Looked (now (bytes .entry)) r ⌝ }
+{
+    let mut number: u32 = 0;
+    let mut length: u32 = 0;
+    trace::check(bytes, &mut number, &mut length);
+    Checked { number, length }
+}
+
+// ---- The same on a card by value: each entry above takes the card out, calls one of these, and stores the next card in place.
+
+struct Written {
+    card: Card,
+    answer: Answer,
+}
+
+struct Run {
+    card: Card,
+    ran: Ran,
+}
+
+// One write, given as its four numbers.
+fn write_on(card: Card, space: u8, lanes: u8, address: u32, word: u32, vram: &mut [u8]) -> Written
+    ensures { λ r. ⌜ Wrote card (writeOf space lanes address word) (now (vram .entry)) (r .answer) (r .card) (now (vram .exit)) ⌝ }
+{
+    let w = Write {
+        space,
+        lanes,
+        address,
+        data: word,
+    };
+    let a = engine::write(card, w, vram);
+    let next = a.card;
+    let answer = Answer {
+        number: a.number,
+        count: a.count,
+    };
+    Written { card: next, answer }
+}
+
+// A run, with the offset of what it left unread.
+fn run_on(card: Card, part: &[u8], vram: &mut [u8], budget: u32) -> Run
+    ensures { λ r. ⌜ Replayed (now (part .entry)) budget card (now (vram .entry)) (r .ran) (r .card) (now (vram .exit)) ⌝ }
+{
+    let t = trace::run(part, card, vram, budget);
+    let rest = 12 * t.applied;
+    let next = t.card;
+    let ran = Ran {
+        number: t.number,
+        entries: t.applied,
+        pixels: t.pixels,
+        rest,
+    };
+    Run { card: next, ran }
+}

@@ -1,0 +1,111 @@
+// Replaying a recorded trace: the numbers that a person types, and the run of a whole trace from reset.
+ghost use mathlib.Core.Path.{_≡_};
+ghost use Prim.Native.Nat.{_≤_, _<_};
+use card::Card;
+
+// A number that was read, or that the text is none.
+pub struct Number {
+    pub ok: bool,
+    pub value: u32,
+}
+
+// What replaying a trace answers: what the run answers, and the VRAM length of the trace's header, 0 where it is no trace.
+pub struct Played {
+    pub number: u32,
+    pub entries: u32,
+    pub pixels: u32,
+    pub length: usize,
+}
+
+const NONE: Number = Number {
+    ok: false,
+    value: 0,
+};
+
+// A decimal number of one to seven digits.
+pub fn decimal(text: &[u8]) -> Number
+    ensures { λ r. ⌜ r .value < 10000000 ⌝ }
+{
+    let n = text.len();
+    if n == 0 {
+        return NONE;
+    }
+    let mut value: u32 = 0;
+    let mut i = 0;
+    while i < n {
+        let digit = digit_of(text[i]);
+        if 9 < digit {
+            return NONE;
+        }
+        if 999999 < value {
+            return NONE;
+        }
+        value = value * 10 + digit;
+        i += 1;
+    }
+    Number { ok: true, value }
+}
+
+// A number of exactly two hexadecimal digits.
+pub fn two_hex_digits(text: &[u8]) -> Number
+    ensures { λ r. ⌜ r .value < 256 ⌝ }
+{
+    if text.len() != 2 {
+        return NONE;
+    }
+    let high = digit_of(text[0]);
+    let low = digit_of(text[1]);
+    if 15 < high {
+        return NONE;
+    }
+    if 15 < low {
+        return NONE;
+    }
+    Number {
+        ok: true,
+        value: high * 16 + low,
+    }
+}
+
+// The value of a hexadecimal digit, or 16.
+fn digit_of(c: u8) -> u32
+    ensures { λ r. ⌜ r ≤ 16 ⌝ }
+{
+    match c {
+        48..=57 => (c - 48) as u32,
+        65..=70 => (c - 55) as u32,
+        97..=102 => (c - 87) as u32,
+        _ => 16,
+    }
+}
+
+// The whole trace from reset on the front of VRAM, which is lent as zeros and as long as any trace may ask.
+pub fn play(bytes: &[u8], held: u8, vram: &mut [u8]) -> Played {
+    let mut number: u32 = 0;
+    let mut length: u32 = 0;
+    let part = trace::check(bytes, &mut number, &mut length);
+    let n = length as usize;
+    if number != 0 {
+        return Played {
+            number,
+            entries: 0,
+            pixels: 0,
+            length: 0,
+        };
+    }
+    if vram.len() < n {
+        return Played {
+            number: 1,
+            entries: 0,
+            pixels: 0,
+            length: 0,
+        };
+    }
+    let r = trace::run(part, Card::reset(held), &mut vram[0..n], 0xFFFF_FFFF);
+    Played {
+        number: r.number,
+        entries: r.applied,
+        pixels: r.pixels,
+        length: n,
+    }
+}

@@ -1,0 +1,117 @@
+// replay TRACE [PICTURE [WIDTH [HELD]]]: runs a recorded trace whole from reset on a zeroed VRAM of its header's length, and says how it went.
+// PICTURE is a file for the picture, a binary PGM of WIDTH columns (512 where it is not given); HELD is the held planes, two hexadecimal digits.
+use libc::STDERR_FILENO;
+use libc::STDOUT_FILENO;
+use player::Number;
+use player::Played;
+
+fn complain(what: &[u8]) {
+    io::write_all(STDERR_FILENO, b"replay: ");
+    io::write_all(STDERR_FILENO, what);
+    io::write_all(STDERR_FILENO, b"\n");
+}
+
+fn line(what: &[u8], n: u64) {
+    io::write_all(STDOUT_FILENO, what);
+    io::print_decimal(STDOUT_FILENO, n);
+    io::write_all(STDOUT_FILENO, b"\n");
+}
+
+fn answer(p: Played) {
+    line(b"number ", p.number as u64);
+    line(b"entries ", p.entries as u64);
+    line(b"pixels ", p.pixels as u64);
+    line(b"vram ", p.length as u64);
+}
+
+// Argument i as a number, or `other` where there is none.
+fn decimal_argument(i: usize, other: u32) -> Number {
+    let mut text = [0u8; 16];
+    if os::arg_count() <= i {
+        return Number {
+            ok: true,
+            value: other,
+        };
+    }
+    let n = os::arg(i, &mut text);
+    player::decimal(&text[..n])
+}
+
+fn held_argument(i: usize) -> Number {
+    let mut text = [0u8; 16];
+    if os::arg_count() <= i {
+        return Number { ok: true, value: 0 };
+    }
+    let n = os::arg(i, &mut text);
+    player::two_hex_digits(&text[..n])
+}
+
+// The picture, in the file that the second argument names. After a refused entry it is the picture so far.
+fn save(vram: &[u8], n: usize, width: usize) {
+    let mut path = io::buffer();
+    if os::arg_count() < 3 || n == 0 {
+        return;
+    }
+    if vram.len() < n {
+        return;
+    }
+    if width == 0 {
+        complain(b"WIDTH is not 0");
+        return;
+    }
+    if n % width != 0 {
+        complain(b"WIDTH does not divide the length of VRAM");
+        return;
+    }
+    let named = os::arg(2, &mut path);
+    show::picture(&path[..named], &vram[0..n], width);
+}
+
+// Runs the trace in the file, says how it went, and leaves the picture.
+fn run(file: i32, width: usize, held: u8, vram: &mut [u8]) {
+    let mut bytes = io::large_buffer();
+    let n = io::read_full(file, &mut bytes);
+    if 16 + 12 * trace::LARGEST < n {
+        complain(b"the trace is larger than the limit");
+        return;
+    }
+    let p = player::play(&bytes[..n], held, vram);
+    answer(p);
+    save(vram, p.length, width);
+}
+
+fn run_lent(file: i32, width: usize, held: u8, vram: &mut [u8; 2097152]) {
+    run(file, width, held, vram);
+}
+
+fn run_zeroed(file: i32, width: usize, held: u8) {
+    let mut vram = [0u8; 2097152];
+    run_lent(file, width, held, &mut vram);
+}
+
+fn main() {
+    let count = os::arg_count();
+    if count < 2 || 5 < count {
+        complain(b"usage: replay TRACE [PICTURE [WIDTH [HELD]]]");
+        return;
+    }
+    let width = decimal_argument(3, 512);
+    if !width.ok {
+        complain(b"WIDTH is a decimal number");
+        return;
+    }
+    let held = held_argument(4);
+    if !held.ok {
+        complain(b"HELD is two hexadecimal digits");
+        return;
+    }
+    let mut path = io::buffer();
+    let n = os::arg(1, &mut path);
+    let file = os::open_read(&path[..n]);
+    if file < 0 {
+        os::fail(&path[..n]);
+        return;
+    }
+    run_zeroed(file, width.value as usize, (held.value % 256) as u8);
+    libc::close(file);
+}

@@ -1,0 +1,45 @@
+// Headers of 16 bytes: count of entries, offset of entries, VRAM length, total length.
+ghost use mathlib.Core.Path.{_≡_};
+ghost use Prim.Native.Nat.{_+_, _*_, _^_, _≤_, _<_};
+ghost use lib.ListN.{length};
+ghost use lib.Seq.{sets};
+ghost use Rattle.trace.specs.Traces.{header, isTrace};
+use crate::entries::well_formed;
+use crate::words::put_word;
+use crate::words::word_at;
+use engine::refusal::bad_length;
+
+// The header of so many entries for a VRAM of `vram` bytes, stored at the front.
+pub fn put_header(b: &mut [u8], count: u32, vram: u32)
+    requires { ⌜ (16 ≤ length (now b)) × (16 + 12 * count < 2 ^ 32) ⌝ }
+    ensures { λ _. ⌜ now (b .exit) ≡ sets (now (b .entry)) 0 (header count vram) ⌝ }
+{
+    put_word(b, 0, count);
+    put_word(b, 4, 16);
+    put_word(b, 8, vram);
+    put_word(b, 12, 16 + 12 * count);
+}
+
+// The bytes are a trace.
+pub fn is_trace(b: &[u8]) -> bool
+    ensures { λ r. ⌜ r ≡ isTrace (now (b .entry)) ⌝ }
+{
+    if b.len() < 16 {
+        return false;
+    }
+    if word_at(b, 4) != 16 {
+        return false;
+    }
+    if bad_length(word_at(b, 8) as usize) {
+        return false;
+    }
+    let count = word_at(b, 0) as usize;
+    let total = word_at(b, 12) as usize;
+    if total != 16 + 12 * count {
+        return false;
+    }
+    if b.len() != total {
+        return false;
+    }
+    well_formed(&b[16..])
+}
