@@ -1,4 +1,4 @@
-//! Counts what was reached: writes by mode or register and number, calls on traces by number, and some situations.
+//! Counts what writes reached: by mode or register and number, and in some situations.
 
 use crate::generate::OFFSETS;
 use crate::model::mode::{self, MODES};
@@ -9,22 +9,6 @@ const FIRST_REGISTER: usize = OTHER_MODE + 1;
 const OTHER_REGISTER: usize = FIRST_REGISTER + OFFSETS.len();
 const OTHER_SPACE: usize = OTHER_REGISTER + 1;
 const ROWS: usize = OTHER_SPACE + 1;
-
-/// Calls on traces, with the numbers that each must have given.
-const CALLS: [(&str, &[u32]); 4] = [
-    ("start", &[0, 1, 11]),
-    ("append", &[0, 2, 10, 11]),
-    ("check", &[0, 10]),
-    ("run", &[0, 1, 2, 3, 4, 5, 6, 7, 8, 9, 10]),
-];
-
-#[derive(Clone, Copy)]
-pub enum Call {
-    Start,
-    Append,
-    Check,
-    Run,
-}
 
 /// Situations that the paper's easy slips are about.
 const SITUATIONS: [&str; 6] = [
@@ -38,7 +22,6 @@ const SITUATIONS: [&str; 6] = [
 
 pub struct Coverage {
     writes: [[u64; 10]; ROWS],
-    traces: [[u64; 12]; 4],
     situations: [u64; 6],
 }
 
@@ -66,7 +49,6 @@ impl Coverage {
     pub fn new() -> Coverage {
         Coverage {
             writes: [[0; 10]; ROWS],
-            traces: [[0; 12]; 4],
             situations: [0; 6],
         }
     }
@@ -91,10 +73,11 @@ impl Coverage {
         }
     }
 
-    pub fn call(&mut self, call: Call, number: u32) {
-        self.traces[call as usize][number as usize] += 1;
+    pub fn all_writes(&self) -> u64 {
+        self.writes.iter().flatten().sum()
     }
 
+    #[cfg(feature = "engine")]
     pub fn print(&self) {
         let heading: String = (0..10).map(|number| format!("{number:>8}")).collect();
         println!("{:<26}{heading}", "write, by number");
@@ -102,20 +85,7 @@ impl Coverage {
             let cells: String = counts.iter().map(|count| format!("{count:>8}")).collect();
             println!("{:<26}{cells}", row_name(row));
         }
-        println!(
-            "{:<26}{:>8}",
-            "all writes",
-            self.writes.iter().flatten().sum::<u64>()
-        );
-        for ((name, _), counts) in CALLS.iter().zip(&self.traces) {
-            let cells: Vec<String> = counts
-                .iter()
-                .enumerate()
-                .filter(|(_, &count)| count > 0)
-                .map(|(n, count)| format!("{n}: {count}"))
-                .collect();
-            println!("trace {name}: {}", cells.join(", "));
-        }
+        println!("{:<26}{:>8}", "all writes", self.all_writes());
         for (name, count) in SITUATIONS.iter().zip(&self.situations) {
             println!("{name}: {count}");
         }
@@ -136,14 +106,6 @@ impl Coverage {
             }
             if counts[1..].iter().all(|&count| count == 0) {
                 missing.push(format!("{}, refused", row_name(row)));
-            }
-        }
-        for ((name, numbers), counts) in CALLS.iter().zip(&self.traces) {
-            for &number in numbers
-                .iter()
-                .filter(|&&number| counts[number as usize] == 0)
-            {
-                missing.push(format!("trace {name}, number {number}"));
             }
         }
         for (name, _) in SITUATIONS

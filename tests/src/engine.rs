@@ -124,27 +124,45 @@ pub fn reset(before: &model::Card, held: u8) -> model::Card {
     from_engine(&card)
 }
 
-pub fn write(card: &mut model::Card, vram: &mut [u8], write: Write) -> (u32, u32) {
-    let mut lent = to_engine(card);
-    let Write {
-        space,
-        lanes,
-        address,
-        data,
-    } = write;
-    let answer = unsafe {
-        zevkholtai_write(
-            &mut lent,
+/// A card that stays in the engine's form from write to write.
+pub struct Kept(Card);
+
+impl Kept {
+    pub fn new(card: &model::Card) -> Kept {
+        Kept(to_engine(card))
+    }
+
+    pub fn card(&self) -> model::Card {
+        from_engine(&self.0)
+    }
+
+    pub fn write(&mut self, vram: &mut [u8], write: Write) -> (u32, u32) {
+        let Write {
             space,
             lanes,
             address,
             data,
-            vram.as_mut_ptr(),
-            vram.len(),
-        )
-    };
-    *card = from_engine(&lent);
-    (answer.number, answer.count)
+        } = write;
+        let answer = unsafe {
+            zevkholtai_write(
+                &mut self.0,
+                space,
+                lanes,
+                address,
+                data,
+                vram.as_mut_ptr(),
+                vram.len(),
+            )
+        };
+        (answer.number, answer.count)
+    }
+}
+
+pub fn write(card: &mut model::Card, vram: &mut [u8], write: Write) -> (u32, u32) {
+    let mut kept = Kept::new(card);
+    let answer = kept.write(vram, write);
+    *card = kept.card();
+    answer
 }
 
 pub fn start(buffer: &mut [u8], length: u32) -> (u32, u32) {

@@ -1,19 +1,22 @@
-//! `model`: the reference model alone, on the scope paper's samples and on the recorded traces.
+//! `model`: the reference model alone, on the scope paper's samples, the recorded traces and the sample trace, and the plain
+//! implementation against it.
+//! `sample FILE`: writes the sample trace.
 //! `compare [SEED [FIRST [LAST]]]`: the model against the engine (feature `engine`), on numbered random cases: all of them, the
 //! one case FIRST, or those from FIRST to LAST.
+//! `bench`: the engine's speed (feature `engine`) beside the plain implementation's.
 
+mod bedside;
 #[cfg(feature = "engine")]
+mod bench;
 mod compare;
-#[cfg(feature = "engine")]
 mod coverage;
 #[cfg(feature = "engine")]
 mod damage;
 #[cfg(feature = "engine")]
 mod engine;
-#[cfg(feature = "engine")]
+mod fast;
 mod generate;
 mod model;
-#[cfg(feature = "engine")]
 mod random;
 mod recorded;
 mod samples;
@@ -23,12 +26,17 @@ mod trace;
 use std::env;
 use std::process::ExitCode;
 
+const USE: &str = "use: model, sample FILE, compare [SEED [FIRST [LAST]]], or bench";
+
 fn main() -> ExitCode {
     let words: Vec<String> = env::args().skip(1).collect();
-    let outcome = match words.first().map(String::as_str) {
-        Some("model") if words.len() == 1 => check_model(),
-        Some("compare") if words.len() <= 4 => check_engine(&words[1..]),
-        _ => Err(String::from("use: model, or compare [SEED [FIRST [LAST]]]")),
+    let words: Vec<&str> = words.iter().map(String::as_str).collect();
+    let outcome = match words[..] {
+        ["model"] => check_model(),
+        ["sample", path] => bedside::save(path),
+        ["compare", ref numbers @ ..] if numbers.len() <= 3 => check_engine(numbers),
+        ["bench"] => measure_engine(),
+        _ => Err(String::from(USE)),
     };
     match outcome {
         Ok(()) => ExitCode::SUCCESS,
@@ -49,33 +57,47 @@ fn check_model() -> Result<(), String> {
         "recorded traces on the model, every byte: {}",
         recorded::check_all(trace::run)?
     );
+    println!(
+        "entries of the sample trace on the model: {}",
+        bedside::check()?
+    );
+    println!(
+        "writes on the plain implementation as on the model: {}",
+        compare::plain::check_all()?
+    );
     Ok(())
 }
 
 #[cfg(feature = "engine")]
-fn check_engine(words: &[String]) -> Result<(), String> {
+fn check_engine(words: &[&str]) -> Result<(), String> {
+    use compare::engine::{compare, CASES};
     let number = |i: usize, default: u64| match words.get(i) {
         None => Ok(default),
         Some(word) => word.parse().map_err(|_| format!("{word} is not a number")),
     };
     let first = number(1, 0)?;
-    let last = number(
-        2,
-        if words.len() > 1 {
-            first
-        } else {
-            compare::CASES - 1
-        },
-    )?;
-    if first > last || last >= compare::CASES {
-        return Err(format!("cases run from 0 to {}", compare::CASES - 1));
+    let last = number(2, if words.len() > 1 { first } else { CASES - 1 })?;
+    if first > last || last >= CASES {
+        return Err(format!("cases run from 0 to {}", CASES - 1));
     }
-    compare::compare(number(0, 1)?, first, last)
+    compare(number(0, 1)?, first, last)
+}
+
+#[cfg(feature = "engine")]
+fn measure_engine() -> Result<(), String> {
+    bench::bench()
 }
 
 #[cfg(not(feature = "engine"))]
-fn check_engine(_words: &[String]) -> Result<(), String> {
-    Err(String::from(
-        "compare needs the engine: build with --features engine and ZEVKHOLTAI_LIB set",
-    ))
+const NO_ENGINE: &str =
+    "this verb needs the engine: build with --features engine and ZEVKHOLTAI_LIB set";
+
+#[cfg(not(feature = "engine"))]
+fn check_engine(_words: &[&str]) -> Result<(), String> {
+    Err(String::from(NO_ENGINE))
+}
+
+#[cfg(not(feature = "engine"))]
+fn measure_engine() -> Result<(), String> {
+    Err(String::from(NO_ENGINE))
 }

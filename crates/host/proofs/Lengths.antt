@@ -1,5 +1,5 @@
 -- The lengths of traces and the offsets within them fit 32 bits, and stand for the parts of the definitions. Assumes nothing.
-use mathlib.Core.Path.{_≡_, refl, ap, sym, _∙_}
+use mathlib.Core.Path.{_≡_, refl, ap}
 use mathlib.Core.Bool.{Bool, true, false, cond}
 use mathlib.Core.List.{List}
 use Prim.Native.Nat.{ℕ, _+_, _*_, _^_, _<_, _≤_}
@@ -10,7 +10,7 @@ use lib.Seq.{length-take-le}
 use borrow.Author.Tests.{eqb-true}
 use Rattle.card.specs.declared.Card.{Card}
 use Rattle.card.specs.declared.Write.{Write}
-use Rattle.trace.specs.Traces.{largest, entryCount, isTrace, checkNumber, checkPart}
+use Rattle.trace.specs.Traces.{largest, isTrace, checkNumber, checkPart}
 use Rattle.trace.specs.Recording.{startNumber, startLength, appendNumber, appendLength}
 use Rattle.trace.specs.Run.{State, outcomeOf, run, unread}
 use Rattle.trace.specs.declared.Ran.{Ran}

@@ -75,10 +75,10 @@ pub extern "C" fn zevkholtai_run(card: &mut Card, part: &[u8], vram: &mut [u8], 
 pub extern "C" fn zevkholtai_start(buffer: &mut [u8], vram: u32) -> Checked
     ensures { λ r. ⌜ Began (now (buffer .entry)) vram r (now (buffer .exit)) ⌝ }
 {
-    let t = trace::start(buffer, vram);
-    let length = t.length as u32;
+    let begun = trace::start(buffer, vram);
+    let length = begun.length as u32;
     Checked {
-        number: t.number,
+        number: begun.number,
         length,
     }
 }
@@ -101,10 +101,10 @@ pub extern "C" fn zevkholtai_append(
         address,
         data: word,
     };
-    let t = trace::append(buffer, used, w);
-    let length = t.length as u32;
+    let grown = trace::append(buffer, used, w);
+    let length = grown.length as u32;
     Checked {
-        number: t.number,
+        number: grown.number,
         length,
     }
 }

@@ -1,6 +1,8 @@
 // Replaying a recorded trace: the numbers that a person types, and the run of a whole trace from reset.
 ghost use mathlib.Core.Path.{_≡_};
-ghost use Prim.Native.Nat.{_≤_, _<_};
+ghost use Prim.Native.Nat.{_≤_};
+ghost use Rattle.player.specs.Typed.{digitOf, decimalOf, hexOf};
+ghost use Rattle.player.specs.Playing.{played, pictured};
 use card::Card;
 
 // A number that was read, or that the text is none.
@@ -24,7 +26,7 @@ const NONE: Number = Number {
 
 // A decimal number of one to seven digits.
 pub fn decimal(text: &[u8]) -> Number
-    ensures { λ r. ⌜ r .value < 10000000 ⌝ }
+    ensures { λ r. ⌜ r ≡ decimalOf (now (text .entry)) ⌝ }
 {
     let n = text.len();
     if n == 0 {
@@ -48,7 +50,7 @@ pub fn decimal(text: &[u8]) -> Number
 
 // A number of exactly two hexadecimal digits.
 pub fn two_hex_digits(text: &[u8]) -> Number
-    ensures { λ r. ⌜ r .value < 256 ⌝ }
+    ensures { λ r. ⌜ r ≡ hexOf (now (text .entry)) ⌝ }
 {
     if text.len() != 2 {
         return NONE;
@@ -69,18 +71,34 @@ pub fn two_hex_digits(text: &[u8]) -> Number
 
 // The value of a hexadecimal digit, or 16.
 fn digit_of(c: u8) -> u32
-    ensures { λ r. ⌜ r ≤ 16 ⌝ }
+    ensures { λ r. ⌜ (r ≡ digitOf c) × (r ≤ 16) ⌝ }
 {
-    match c {
-        48..=57 => (c - 48) as u32,
-        65..=70 => (c - 55) as u32,
-        97..=102 => (c - 87) as u32,
-        _ => 16,
+    if c < 48 {
+        return 16;
     }
+    if c <= 57 {
+        return (c - 48) as u32;
+    }
+    if c < 65 {
+        return 16;
+    }
+    if c <= 70 {
+        return (c - 55) as u32;
+    }
+    if c < 97 {
+        return 16;
+    }
+    if c <= 102 {
+        return (c - 87) as u32;
+    }
+    16
 }
 
 // The whole trace from reset on the front of VRAM, which is lent as zeros and as long as any trace may ask.
-pub fn play(bytes: &[u8], held: u8, vram: &mut [u8]) -> Played {
+pub fn play(bytes: &[u8], held: u8, vram: &mut [u8]) -> Played
+    ensures { λ r. ⌜ (r ≡ played (now (bytes .entry)) held (now (vram .entry)))
+        × (now (vram .exit) ≡ pictured (now (bytes .entry)) held (now (vram .entry))) ⌝ }
+{
     let mut number: u32 = 0;
     let mut length: u32 = 0;
     let part = trace::check(bytes, &mut number, &mut length);

@@ -1,28 +1,34 @@
 // What the programs share: counting bytes, and writing a picture as a binary PGM.
-ghost use Prim.Native.Nat.{_≤_};
-ghost use lib.ListN.{length};
+ghost use mathlib.Core.Path.{_≡_};
+ghost use mathlib.Core.Bool.{false, not};
+ghost use Prim.Native.Nat.{_≤_, min};
+ghost use lib.Dec.{eqb, leb};
+ghost use lib.ListN.{length, getD};
+ghost use Rattle.raster.specs.Pixel.{value};
+ghost use Rattle.span.specs.Fragments.{counted};
 
-fn one_if_other(a: u8, b: u8) -> usize
-    ensures { λ r. ⌜ r ≤ 1 ⌝ }
+// One where the test holds.
+fn one_if(test: bool) -> usize
+    ensures { λ r. ⌜ (r ≡ value test) × (r ≤ 1) ⌝ }
 {
-    if a == b { 0 } else { 1 }
+    if test { 1 } else { 0 }
 }
 
 fn shorter(a: usize, b: usize) -> usize
-    ensures { λ r. ⌜ (r ≤ a) × (r ≤ b) ⌝ }
+    ensures { λ r. ⌜ r ≡ min a b ⌝ }
 {
     if a < b { a } else { b }
 }
 
 // How many bytes of the two, place by place, are not the same.
 pub fn differing(a: &[u8], b: &[u8]) -> usize
-    ensures { λ r. ⌜ r ≤ length (now (a .entry)) ⌝ }
+    ensures { λ r. ⌜ r ≡ counted (min (length (now (a .entry))) (length (now (b .entry)))) (λ i. not (eqb (getD (now (a .entry)) i 0) (getD (now (b .entry)) i 0))) ⌝ }
 {
     let end = shorter(a.len(), b.len());
     let mut n: usize = 0;
     let mut i = 0;
     while i < end {
-        n += one_if_other(a[i], b[i]);
+        n += one_if(a[i] != b[i]);
         i += 1;
     }
     n
@@ -30,24 +36,22 @@ pub fn differing(a: &[u8], b: &[u8]) -> usize
 
 // How many bytes are at least `least`.
 pub fn at_least(a: &[u8], least: u8) -> usize
-    ensures { λ r. ⌜ r ≤ length (now (a .entry)) ⌝ }
+    ensures { λ r. ⌜ r ≡ counted (length (now (a .entry))) (λ i. leb least (getD (now (a .entry)) i 0)) ⌝ }
 {
+    let end = a.len();
     let mut n: usize = 0;
     let mut i = 0;
-    while i < a.len() {
-        if least <= a[i] {
-            n += 1;
-        }
+    while i < end {
+        n += one_if(least <= a[i]);
         i += 1;
     }
     n
 }
 
-// The picture, `width` columns wide, in the file of that name. False where it could not be written.
-pub fn picture(path: &[u8], pixels: &[u8], width: usize) -> bool {
-    if width == 0 {
-        return false;
-    }
+// The picture in the file of that name; false where it could not be written.
+fn written(path: &[u8], pixels: &[u8], width: usize) -> bool
+    requires { ⌜ (width ≡ 0 → ⊥) ⌝ }
+{
     let file = os::open_overwrite(path);
     if file < 0 {
         os::fail(path);
@@ -64,4 +68,15 @@ pub fn picture(path: &[u8], pixels: &[u8], width: usize) -> bool {
         os::fail(path);
     }
     done
+}
+
+// The picture as a binary PGM, `width` columns wide. False at a width of 0, or where it could not be written;
+// no contract can say what is written to a file.
+pub fn picture(path: &[u8], pixels: &[u8], width: usize) -> bool
+    ensures { λ r. ⌜ (width ≡ 0 → r ≡ false) ⌝ }
+{
+    if width == 0 {
+        return false;
+    }
+    written(path, pixels, width)
 }

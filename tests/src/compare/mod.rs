@@ -1,92 +1,68 @@
-//! Makes the same calls on the model and on the engine, and compares everything that comes back.
+//! Makes the same calls on the model and on another, and compares everything that comes back.
 
+#[cfg(feature = "engine")]
+mod calls;
+#[cfg(feature = "engine")]
+pub mod engine;
+pub mod plain;
+#[cfg(feature = "engine")]
 mod traces;
 mod writes;
 
-use crate::coverage::Coverage;
-use crate::engine;
 use crate::generate::Maker;
-use crate::model::{self, Card};
-use crate::random::Random;
-use crate::recorded;
+use crate::model::{self, Card, Write};
 use std::fmt::Debug;
 
-/// Cases below this number are runs of writes, the others up to `CASES` are traces.
+/// Cases below this number are runs of writes.
 const WRITE_CASES: u64 = 1_000;
-pub const CASES: u64 = WRITE_CASES + 4_000;
 
 type Outcome = Result<(), String>;
 
-/// Runs the cases from first to last; coverage is judged only where all of them ran.
-pub fn compare(seed: u64, first: u64, last: u64) -> Outcome {
-    let recorded = recorded::check_all(engine::run)?;
-    println!("{recorded} recorded traces give their pictures on the engine");
-    println!("seed {seed}, cases {first} to {last}");
-    let mut coverage = Coverage::new();
-    for case in first..=last {
-        let mut maker = Maker::new(Random::of_case(seed, case));
-        let outcome = if case < WRITE_CASES {
-            writes::case(&mut maker, &mut coverage)
-        } else {
-            traces::case(&mut maker, &mut coverage)
-        };
-        outcome.map_err(|why| {
-            format!(
-                "seed {seed} case {case}: {why}\nrun it again with: compare {seed} {case} {case}"
-            )
-        })?;
-    }
-    coverage.print();
-    println!("no difference");
-    let missing = coverage.missing();
-    if first == 0 && last + 1 == CASES && !missing.is_empty() {
-        return Err(format!(
-            "seed {seed}: never reached: {}",
-            missing.join("; ")
-        ));
-    }
-    Ok(())
+/// What is compared with the model: a reset, given the card that stood there, and a write.
+struct Other {
+    reset: fn(&Card, u8) -> Card,
+    write: fn(&mut Card, &mut [u8], Write) -> (u32, u32),
 }
 
-fn same<T: PartialEq + Debug>(what: &str, model: &T, engine: &T) -> Outcome {
-    if model == engine {
+fn same<T: PartialEq + Debug>(what: &str, model: &T, other: &T) -> Outcome {
+    if model == other {
         Ok(())
     } else {
         Err(format!(
-            "{what} differs\n  model  {model:?}\n  engine {engine:?}"
+            "{what} differs\n  model {model:?}\n  other {other:?}"
         ))
     }
 }
 
-fn same_bytes(what: &str, model: &[u8], engine: &[u8]) -> Outcome {
-    if model == engine {
+fn same_bytes(what: &str, model: &[u8], other: &[u8]) -> Outcome {
+    if model == other {
         return Ok(());
     }
     let at = (0..model.len())
-        .find(|&at| model[at] != engine[at])
+        .find(|&at| model[at] != other[at])
         .unwrap_or(0);
     Err(format!(
-        "{what} differs first at {at}: model {:02X}, engine {:02X}",
-        model[at], engine[at]
+        "{what} differs first at {at}: model {:02X}, other {:02X}",
+        model[at], other[at]
     ))
 }
 
 /// A picture lent to both sides.
 struct Pair {
     model: Vec<u8>,
-    engine: Vec<u8>,
+    other: Vec<u8>,
 }
 
 impl Pair {
     fn new(bytes: Vec<u8>) -> Pair {
         Pair {
             model: bytes.clone(),
-            engine: bytes,
+            other: bytes,
         }
     }
 
     fn same(&self, what: &str) -> Outcome {
-        same_bytes(what, &self.model, &self.engine)
+        same_bytes(what, &self.model, &self.other)
     }
 }
 
@@ -99,10 +75,19 @@ fn picture(maker: &mut Maker, length: usize) -> Vec<u8> {
 }
 
 /// Reset leaves the same card on both sides, whatever stood there.
-fn fresh_card(maker: &mut Maker) -> Result<Card, String> {
+fn fresh_card(other: &Other, maker: &mut Maker) -> Result<Card, String> {
     let held = maker.held();
     let before = maker.good_card();
     let card = model::reset(held);
-    same("card after reset", &card, &engine::reset(&before, held))?;
+    same("card after reset", &card, &(other.reset)(&before, held))?;
     Ok(card)
+}
+
+/// Every case ran, so nothing may have been left out.
+fn all_reached(missing: &[String]) -> Outcome {
+    if missing.is_empty() {
+        Ok(())
+    } else {
+        Err(format!("never reached: {}", missing.join("; ")))
+    }
 }

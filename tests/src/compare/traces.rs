@@ -1,7 +1,8 @@
 //! Traces: started, appended to, checked and run on both sides, whole and damaged, with several budgets.
 
+use super::calls::{Call, Calls};
+use super::engine::ENGINE;
 use super::{fresh_card, picture, same, Outcome, Pair};
-use crate::coverage::{Call, Coverage};
 use crate::damage;
 use crate::engine;
 use crate::generate::Maker;
@@ -9,7 +10,7 @@ use crate::model::{Card, Write};
 use crate::trace::{self, ENTRY, HEADER};
 
 /// One trace: written entry by entry, checked whole and damaged, and run in pieces.
-pub fn case(maker: &mut Maker, coverage: &mut Coverage) -> Outcome {
+pub fn case(maker: &mut Maker, calls: &mut Calls) -> Outcome {
     let (length, _) = maker.length();
     let entries = if maker.random.one_in(150) {
         4094 + maker.random.below(4) as usize
@@ -17,22 +18,22 @@ pub fn case(maker: &mut Maker, coverage: &mut Coverage) -> Outcome {
         maker.random.below(50) as usize
     };
     let writes = damage::writes(maker, length, entries);
-    written(maker, coverage, length, &writes[..entries.min(50)])?;
+    written(maker, calls, length, &writes[..entries.min(50)])?;
     let whole = damage::whole(length, &writes);
-    lengthened(maker, coverage, &whole)?;
-    checked(coverage, &whole)?;
-    run_in_pieces(maker, coverage, &whole[HEADER..], length)?;
+    lengthened(maker, calls, &whole)?;
+    checked(calls, &whole)?;
+    run_in_pieces(maker, calls, &whole[HEADER..], length)?;
     for _ in 0..3 {
         let bad = damage::damaged(maker, &whole);
-        checked(coverage, &bad)?;
-        lengthened(maker, coverage, &bad)?;
-        run_in_pieces(maker, coverage, &bad[HEADER.min(bad.len())..], length)?;
+        checked(calls, &bad)?;
+        lengthened(maker, calls, &bad)?;
+        run_in_pieces(maker, calls, &bad[HEADER.min(bad.len())..], length)?;
     }
     Ok(())
 }
 
 /// Starts a trace in a buffer that may be too small and appends, now and then with a false length.
-fn written(maker: &mut Maker, coverage: &mut Coverage, length: usize, writes: &[Write]) -> Outcome {
+fn written(maker: &mut Maker, calls: &mut Calls, length: usize, writes: &[Write]) -> Outcome {
     let size = match maker.random.below(4) {
         0 => maker.random.below(HEADER as u64 + 1) as usize,
         1 => HEADER + maker.random.below((ENTRY * writes.len()) as u64 + 1) as usize,
@@ -43,10 +44,10 @@ fn written(maker: &mut Maker, coverage: &mut Coverage, length: usize, writes: &[
     same(
         "start",
         &started,
-        &engine::start(&mut buffer.engine, length as u32),
+        &engine::start(&mut buffer.other, length as u32),
     )?;
     buffer.same("buffer after start")?;
-    coverage.call(Call::Start, started.0);
+    calls.add(Call::Start, started.0);
     let mut used = started.1 as usize;
     for &write in writes {
         let wrong = maker.random.pick(&[
@@ -58,7 +59,7 @@ fn written(maker: &mut Maker, coverage: &mut Coverage, length: usize, writes: &[
             0,
         ]);
         let claimed = if maker.random.one_in(12) { wrong } else { used };
-        let (number, longer) = appended(coverage, &mut buffer, claimed, write)?;
+        let (number, longer) = appended(calls, &mut buffer, claimed, write)?;
         if number == 0 {
             used = longer as usize;
         }
@@ -67,21 +68,21 @@ fn written(maker: &mut Maker, coverage: &mut Coverage, length: usize, writes: &[
 }
 
 fn appended(
-    coverage: &mut Coverage,
+    calls: &mut Calls,
     buffer: &mut Pair,
     used: usize,
     write: Write,
 ) -> Result<(u32, u32), String> {
     let ours = trace::append(&mut buffer.model, used, write);
-    let theirs = engine::append(&mut buffer.engine, used, write);
+    let theirs = engine::append(&mut buffer.other, used, write);
     same(&format!("append of {write:X?} at {used}"), &ours, &theirs)?;
     buffer.same("buffer after append")?;
-    coverage.call(Call::Append, ours.0);
+    calls.add(Call::Append, ours.0);
     Ok(ours)
 }
 
 /// Appends three entries to bytes that may be a trace already; the third never has room.
-fn lengthened(maker: &mut Maker, coverage: &mut Coverage, bytes: &[u8]) -> Outcome {
+fn lengthened(maker: &mut Maker, calls: &mut Calls, bytes: &[u8]) -> Outcome {
     let mut lent = bytes.to_vec();
     lent.extend(maker.random.bytes(3 * ENTRY - 1));
     let mut buffer = Pair::new(lent);
@@ -94,7 +95,7 @@ fn lengthened(maker: &mut Maker, coverage: &mut Coverage, bytes: &[u8]) -> Outco
             address: maker.random.word(),
             data: maker.random.word(),
         };
-        let (number, longer) = appended(coverage, &mut buffer, used, write)?;
+        let (number, longer) = appended(calls, &mut buffer, used, write)?;
         if number == 0 {
             used = longer as usize;
         }
@@ -102,20 +103,15 @@ fn lengthened(maker: &mut Maker, coverage: &mut Coverage, bytes: &[u8]) -> Outco
     Ok(())
 }
 
-fn checked(coverage: &mut Coverage, bytes: &[u8]) -> Outcome {
+fn checked(calls: &mut Calls, bytes: &[u8]) -> Outcome {
     let ours = trace::check(bytes);
     same("check", &ours, &engine::check(bytes))?;
-    coverage.call(Call::Check, ours.0);
+    calls.add(Call::Check, ours.0);
     Ok(())
 }
 
 /// Runs a part with several budgets; after a refusal the entry is left out and the rest goes on.
-fn run_in_pieces(
-    maker: &mut Maker,
-    coverage: &mut Coverage,
-    part: &[u8],
-    length: usize,
-) -> Outcome {
+fn run_in_pieces(maker: &mut Maker, calls: &mut Calls, part: &[u8], length: usize) -> Outcome {
     // "The VRAM length in a trace's header isn't compared with the lent VRAM."
     let lent = if maker.random.one_in(6) {
         maker.length().0
@@ -130,7 +126,7 @@ fn run_in_pieces(
         let budget = maker.random.pick(&[0, 1, 7, 40, random, 4096, u32::MAX]);
         let mut theirs = card.clone();
         let ran = trace::run(&part[from..], &mut card, &mut vram.model, budget);
-        let given = engine::run(&part[from..], &mut theirs, &mut vram.engine, budget);
+        let given = engine::run(&part[from..], &mut theirs, &mut vram.other, budget);
         same(
             &format!("run of {} bytes with budget {budget}", part.len() - from),
             &ran,
@@ -138,7 +134,7 @@ fn run_in_pieces(
         )?;
         same("card after run", &card, &theirs)?;
         vram.same("VRAM after run")?;
-        coverage.call(Call::Run, ran.number);
+        calls.add(Call::Run, ran.number);
         if ran.number == 10 || ran.number == 1 {
             return Ok(());
         }
@@ -152,7 +148,7 @@ fn run_in_pieces(
 
 /// Most runs start from reset, some from another card, good or bad.
 fn card_for_run(maker: &mut Maker) -> Result<Card, String> {
-    let card = fresh_card(maker)?;
+    let card = fresh_card(&ENGINE, maker)?;
     Ok(match maker.random.below(12) {
         0 => maker.bad_card(&card),
         1..=3 => maker.good_card(),

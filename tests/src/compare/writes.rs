@@ -1,8 +1,7 @@
 //! Runs of writes: number, count, whole card and whole VRAM are compared after every one.
 
-use super::{fresh_card, picture, same, Outcome, Pair};
+use super::{fresh_card, picture, same, Other, Outcome, Pair};
 use crate::coverage::Coverage;
-use crate::engine;
 use crate::generate::Maker;
 use crate::model::{self, Card, Write};
 
@@ -10,10 +9,10 @@ const WRITES_A_CASE: usize = 300;
 const WRITES_A_SHORT_CASE: usize = 12;
 
 /// Some hundred writes on a kept card and picture; now and then another card is handed in.
-pub fn case(maker: &mut Maker, coverage: &mut Coverage) -> Outcome {
+pub fn case(other: &Other, maker: &mut Maker, coverage: &mut Coverage) -> Outcome {
     let (length, short) = maker.length();
     let mut vram = Pair::new(picture(maker, length));
-    let mut card = fresh_card(maker)?;
+    let mut card = fresh_card(other, maker)?;
     let writes = if short {
         WRITES_A_SHORT_CASE
     } else {
@@ -30,7 +29,7 @@ pub fn case(maker: &mut Maker, coverage: &mut Coverage) -> Outcome {
             card.clone()
         };
         let write = maker.write(&handed, length);
-        let after = one_write(coverage, &handed, &mut vram, write).map_err(|why| {
+        let after = one_write(other, coverage, &handed, &mut vram, write).map_err(|why| {
             format!("VRAM {length}, write {k}, {write:X?}, card {handed:X?}: {why}")
         })?;
         // A card that is bad would be refused for ever, so the good one goes on.
@@ -40,6 +39,7 @@ pub fn case(maker: &mut Maker, coverage: &mut Coverage) -> Outcome {
 }
 
 fn one_write(
+    other: &Other,
     coverage: &mut Coverage,
     card: &Card,
     vram: &mut Pair,
@@ -48,7 +48,7 @@ fn one_write(
     let mut ours = card.clone();
     let mut theirs = card.clone();
     let answer = model::write(&mut ours, &mut vram.model, write);
-    let given = engine::write(&mut theirs, &mut vram.engine, write);
+    let given = (other.write)(&mut theirs, &mut vram.other, write);
     same("number and count", &answer, &given)?;
     same("card", &ours, &theirs)?;
     vram.same("VRAM")?;

@@ -21,18 +21,17 @@ use sound.WpLaws.{FmC, fmOf, WpFn-mono}
 use denote.RattleType.{owns}
 use denote.Laws.{Is, shows}
 use denote.Memory.{mem}
-use denote.Plain.{uint-vals, uint-tells, uint-makes}
+use denote.Plain.{uint-vals, uint-tells}
 use denote.Builtin.{u8}
 use denote.Ref.{RefT, MutRef, ptr-vals, mut-tells}
-use denote.Signature.{plain}
-use denote.Steps.{owned, peeks, heard, nothing}
+use denote.Steps.{peeks, heard, nothing}
 use denote.Triple.Entry.{onEntry}
 use denote.Triple.Spec.{Meets, tripleOf}
 use denote.Triple.Statement.{Contract, Triple}
 use denote.Triple.Call.{calls-at}
 use denote.Triple.Clauses.{ensured, lasts}
 use denote.Triple.Table.{entered, cited}
-use denote.Triple.Walked.{says, Stays, stay-ref, stay-dropped, walkOf, goes-ref, goes-dropped, Walks, ends-at, walked, walk-meets}
+use denote.Triple.Walked.{says, Stays, stay-ref, stay-dropped, walkOf, AllGo, goes-ref, goes-dropped, Walks, ends-at, walked, walk-meets}
 use denote.Exit.{yes}
 use Rattle.card.specs.declared.Card.{Card}
 use Rattle.card.specs.Reset.{resetCard}
@@ -41,14 +40,14 @@ use Rattle.card.proofs.Card.reset as reset
 use Rattle.card.proofs.Card.reset.Symbol as reset-def
 use Rattle.card.proofs.Card.reset.Symbol.{name as #card·Card·reset}
 use Rattle.card.proofs.Card.reset.Met as reset-thm
-use Rattle.host.proofs.Lent.{typed, card-opens, card-closes}
+use Rattle.host.proofs.Lent.{cardS, byteS, typed, byte-owned, card-opens, card-closes}
 use Rattle.host.proofs.zevkholtai_reset.Key.{name as #host·zevkholtai-reset}
 use Rattle.host.proofs.zevkholtai_reset as f
 use Rattle.host.proofs.zevkholtai_reset.Statement as stated
 use Rattle.host.proofs.zevkholtai_reset.Code as code
 
 abbrev stayed : Stays (f.ended .signature .params) (f.ended .kept)
-stayed = (stay-ref (0 ∷ []) tt (plain (λ _. T.the-row)), (stay-dropped (plain (λ _. u8)) yes, tt))
+stayed = (stay-ref (0 ∷ []) tt cardS, (stay-dropped byteS yes, tt))
 
 module _ {M : Type 1} (𝓤 : URA M) (H : Heap 𝓤) (A : Atoms 𝓤) (at-mem : Memory → SProp 𝓤) (run : Routine → Fun 𝓤) where
   -- the contract that the proof cites, and of its `ensured` the clause alone
@@ -76,7 +75,7 @@ module _ {M : Type 1} (𝓤 : URA M) (H : Heap 𝓤) (A : Atoms 𝓤) (W : Given
   to-reset = ((tt, tt, tt, (n, tt), (vint w8 n ∷ [], tt)), tt)
 
   goes-reset : ent 𝓤 (emp 𝓤) (Reset 𝓤 H A at-mem run .pre to-reset)
-  goes-reset = qed W (‵ ftrue ∷ []) ∵ nothing ! $ owned ! u8 (Is u8) (uint-makes 𝓤 H A W w8) n _ (refl, fits) $ fjoin ! $ move ! (1 ∷ 0 ∷ []) $ join ! $ nothing ! $ move ! (1 ∷ 0 ∷ []) $ frame ! $ done !
+  goes-reset = qed W (‵ ftrue ∷ []) ∵ nothing ! $ byte-owned ! n fits $ fjoin ! $ move ! (1 ∷ 0 ∷ []) $ join ! $ nothing ! $ move ! (1 ∷ 0 ∷ []) $ frame ! $ done !
 
   exits : (c′ : Card) → c′ ≡ resetCard n → ent 𝓤 (sep 𝓤 (A .obs γ (T.the-row .coded .code c′)) (sep 𝓤 (A .bor κ (Body (mem T.the-row) b o γ)) (A .lft κ q))) (Post vunit)
   exits c′ e =
@@ -112,10 +111,13 @@ module _ {M : Type 1} (𝓤 : URA M) (H : Heap 𝓤) (A : Atoms 𝓤) (W : Given
   zevkholtai-reset-walks C Λ fm known = walked 𝓤 H A f.ended stayed (f.clauses 𝓤 H A at-mem run) (WpFn 𝓤 H C Λ code.function) (λ κs. (ptr-vals, (uint-vals w8, tt))) (λ κs. (mut-tells (named 0) (κs .0) T.the-row, (uint-tells w8, tt)))
       (λ κs qs bounds a _ are. via 𝓤 _ (fst∗ 𝓤 _ (emp 𝓤)) (walk 𝓤 H A W at-mem run (κs .0) (qs .0) (a .0 .ptr .0) (a .0 .ptr .1) (a .0 .name) (a .0 .now) (a .1 .0) (are .1 .0 .1) C Λ fm known))
 
+goes : {M : Type 1} (𝓤 : URA M) (H : Heap 𝓤) (A : Atoms 𝓤) (W : Given 𝓤 H A) → AllGo 𝓤 H A W 1 (f.signature .params) (f.ended .kept) stayed
+goes 𝓤 H A W = (goes-ref 𝓤 H A W 1 0 tt cardS, (goes-dropped 𝓤 H A W 1 byteS yes (λ κs x f. refl), tt))
+
 zevkholtai-reset-meets : {M : Type 1} (𝓤 : URA M) (H : Heap 𝓤) (A : Atoms 𝓤) → Given 𝓤 H A → (at-mem : Memory → SProp 𝓤) (run : Routine → Fun 𝓤) (𝓣 : Tables 𝓤 H) → Triple 𝓤 (𝓣 .C #card·Card·reset) (Reset 𝓤 H A at-mem run)
     → Meets 𝓤 H A f.signature (WpFn 𝓤 H (𝓣 .C) (𝓣 .Λ) code.function) (f.spec 𝓤 H A at-mem run)
 zevkholtai-reset-meets 𝓤 H A W at-mem run 𝓣 known =
-    walk-meets 𝓤 H A f.ended stayed W (goes-ref 𝓤 H A W 1 0 tt (plain (λ _. T.the-row)), (goes-dropped 𝓤 H A W 1 (plain (λ _. u8)) yes (λ κs x f. refl), tt)) (f.clauses 𝓤 H A at-mem run)
+    walk-meets 𝓤 H A f.ended stayed W (goes 𝓤 H A W) (f.clauses 𝓤 H A at-mem run)
     (WpFn 𝓤 H (𝓣 .C) (𝓣 .Λ) code.function) (WpFn-mono 𝓤 H (W .laws) 𝓣 code.function) (zevkholtai-reset-walks 𝓤 H A W at-mem run (𝓣 .C) (𝓣 .Λ) (fmOf 𝓤 H (W .laws) 𝓣) known)
 
 pub zevkholtai-reset-spec : {M : Type 1} → stated.statement M

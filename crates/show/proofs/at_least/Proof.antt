@@ -1,22 +1,31 @@
--- `show::at_least` meets its contract: at most one for each byte passed. Assumes nothing.
-use mathlib.Core.Logic.{⊎-elim}
-use Prim.Native.Nat.{_≤_, _-_}
+-- `show::at_least` meets its contract. The loop's invariant: the bytes passed are counted. Assumes nothing.
+use mathlib.Core.Path.{_≡_, refl, ap₂, sym, _∙_}
+use Prim.Native.Nat.{ℕ, _+_, _≤_, _-_}
 use native.Mathlib.Omega.{arith}
-use lib.ListN.{length}
+use denote.Ref.{now}
+use borrow.Author.Needs.{needs}
+use lib.Dec.{leb}
+use lib.ListN.{length, getD}
+use Rattle.span.specs.Fragments.{counted}
+use Rattle.span.proofs.Counted.{counted-step}
 use Rattle.show.proofs.at_least.Statement.{statement}
 use Rattle.show.proofs.at_least.Tie as tie
 
 abbrev Inv-loop : tie.InvT-loop
-Inv-loop a least n₀ i₀ n i = (i ≤ length a) × (n ≤ i)
+Inv-loop a least end n₀ i₀ n i = (end ≡ length a) × (i ≤ end) × (n ≤ i) × (n ≡ counted i (λ k. leb least (getD a k 0)))
 
 abbrev μ-loop : tie.MeasureT-loop
-μ-loop a least n₀ i₀ n i = length a - i
+μ-loop a least end n₀ i₀ n i = end - i
 
 loop-holds : tie.Need-loop-holds Inv-loop μ-loop
-loop-holds c = omega arith
+unfolding counted
+loop-holds c = (refl, omega arith, omega arith, refl)
 
-shared-slice-read-if1 : tie.Need-shared-slice-read-if1 Inv-loop μ-loop
-shared-slice-read-if1 c = omega arith
+shared-slice-read-one-if : tie.Need-shared-slice-read-one-if Inv-loop μ-loop
+shared-slice-read-one-if c = omega arith
+
+one-if-requires : tie.Need-one-if-requires Inv-loop μ-loop
+one-if-requires c κs = search needs
 
 add-n : tie.Need-add-n Inv-loop μ-loop
 add-n c = omega arith
@@ -28,10 +37,19 @@ loop-less : tie.Need-loop-less Inv-loop μ-loop
 loop-less c = omega arith
 
 loop-again : tie.Need-loop-again Inv-loop μ-loop
-loop-again c = ⊎-elim (λ w. omega arith) (λ w. omega arith) (c .if1 .came)
+loop-again c =
+    let l = c .before .before .before .loop in (
+      l .inv .0,
+      omega arith,
+      omega (arith, c .one-if .ensures .1),
+      ap₂ (λ (x y : ℕ). x + y) (l .inv .3) (c .one-if .ensures .0) ∙ sym (counted-step (l .i) _),
+    )
 
 returns : tie.Need-returns Inv-loop μ-loop
-returns c = omega arith
+returns c =
+    let l = c .before .loop in
+    let e : l .i ≡ length (now (c .before .before .before .args .a)) = omega (arith, l .inv .0) in
+    rw e at (l .inv .3)
 
 pub at-least-spec : {M : Type 1} → statement M
 at-least-spec =
@@ -40,7 +58,8 @@ at-least-spec =
     Inv-loop
     μ-loop
     loop-holds
-    shared-slice-read-if1
+    shared-slice-read-one-if
+    one-if-requires
     add-n
     add-i
     loop-less

@@ -1,13 +1,19 @@
--- `show::differing` meets its contract: at most one for each byte passed. Assumes nothing.
-use Prim.Native.Nat.{_≤_, _-_}
+-- `show::differing` meets its contract. The loop's invariant: the bytes passed are counted. Assumes nothing.
+use mathlib.Core.Path.{_≡_, refl, ap₂, sym, _∙_}
+use mathlib.Core.Bool.{not}
+use Prim.Native.Nat.{ℕ, _+_, _≤_, _-_, min}
 use native.Mathlib.Omega.{arith}
+use denote.Ref.{now}
 use borrow.Author.Needs.{needs}
-use lib.ListN.{length}
+use lib.Dec.{eqb}
+use lib.ListN.{length, getD}
+use Rattle.span.specs.Fragments.{counted}
+use Rattle.span.proofs.Counted.{counted-step}
 use Rattle.show.proofs.differing.Statement.{statement}
 use Rattle.show.proofs.differing.Tie as tie
 
 abbrev Inv-loop : tie.InvT-loop
-Inv-loop a b end n₀ i₀ n i = (end ≤ length a) × (end ≤ length b) × (i ≤ end) × (n ≤ i)
+Inv-loop a b end n₀ i₀ n i = (end ≡ min (length a) (length b)) × (i ≤ end) × (n ≤ i) × (n ≡ counted i (λ k. not (eqb (getD a k 0) (getD b k 0))))
 
 abbrev μ-loop : tie.MeasureT-loop
 μ-loop a b end n₀ i₀ n i = end - i
@@ -16,16 +22,17 @@ shorter-requires : tie.Need-shorter-requires Inv-loop μ-loop
 shorter-requires c κs = search needs
 
 loop-holds : tie.Need-loop-holds Inv-loop μ-loop
-loop-holds c = omega arith
+unfolding counted
+loop-holds c = (c .shorter .ensures, omega arith, omega arith, refl)
 
-shared-slice-read-one-if-other : tie.Need-shared-slice-read-one-if-other Inv-loop μ-loop
-shared-slice-read-one-if-other c = omega arith
+shared-slice-read-one-if : tie.Need-shared-slice-read-one-if Inv-loop μ-loop
+shared-slice-read-one-if c = omega arith
 
-shared-slice-read-one-if-other-2 : tie.Need-shared-slice-read-one-if-other-2 Inv-loop μ-loop
-shared-slice-read-one-if-other-2 c = omega arith
+shared-slice-read-one-if-2 : tie.Need-shared-slice-read-one-if-2 Inv-loop μ-loop
+shared-slice-read-one-if-2 c = omega arith
 
-one-if-other-requires : tie.Need-one-if-other-requires Inv-loop μ-loop
-one-if-other-requires c κs = search needs
+one-if-requires : tie.Need-one-if-requires Inv-loop μ-loop
+one-if-requires c κs = search needs
 
 add-n : tie.Need-add-n Inv-loop μ-loop
 add-n c = omega arith
@@ -37,10 +44,19 @@ loop-less : tie.Need-loop-less Inv-loop μ-loop
 loop-less c = omega arith
 
 loop-again : tie.Need-loop-again Inv-loop μ-loop
-loop-again c = omega arith
+loop-again c =
+    let l = c .before .before .before .before .loop in (
+      l .inv .0,
+      omega arith,
+      omega (arith, c .one-if .ensures .1),
+      ap₂ (λ (x y : ℕ). x + y) (l .inv .3) (c .one-if .ensures .0) ∙ sym (counted-step (l .i) _),
+    )
 
 returns : tie.Need-returns Inv-loop μ-loop
-returns c = omega arith
+returns c =
+    let l = c .before .loop in
+    let e : l .i ≡ min (length (now (c .before .before .before .before .before .args .a))) (length (now (c .before .before .before .before .before .args .b))) = omega (arith, l .inv .0) in
+    rw e at (l .inv .3)
 
 pub differing-spec : {M : Type 1} → statement M
 differing-spec =
@@ -50,9 +66,9 @@ differing-spec =
     μ-loop
     shorter-requires
     loop-holds
-    shared-slice-read-one-if-other
-    shared-slice-read-one-if-other-2
-    one-if-other-requires
+    shared-slice-read-one-if
+    shared-slice-read-one-if-2
+    one-if-requires
     add-n
     add-i
     loop-less

@@ -1,0 +1,3 @@
+-- What the crate `player` means.
+pub mod Typed
+pub mod Playing

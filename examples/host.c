@@ -1,0 +1,75 @@
+/* A host in C that keeps one card. It fills a picture grey around marks in a held plane, then draws a caliper by exclusive-or
+ * from a recorded trace and takes it off again. It says what it sees, and ends with 1 where something is not as promised. */
+#include <stdio.h>
+#include <stdlib.h>
+#include <string.h>
+#include "zevkholtai.h"
+
+enum { SIDE = 64, SIZE = SIDE * SIDE, HELD = 0x80, GREY = 0x40 };
+enum { FRAME, REGISTER, FOREGROUND = 0x20, MODE = 0x30, RASTER = 0x34, FILL_MASK = 0x80 };
+enum { STIPPLE = 0x05, FILL = 0x45, XOR = 6 };
+
+static struct zevkholtai_card card;
+static uint8_t vram[SIZE], marks[SIZE], filled[SIZE], trace[16 + 12 * SIDE];
+
+static void promised(int holds, const char *what) {
+    if (!holds) {
+        printf("not as promised: %s\n", what);
+        exit(1);
+    }
+}
+
+static uint32_t draw(uint8_t space, uint32_t address, uint32_t data) {
+    struct zevkholtai_answer a = zevkholtai_write(&card, space, 15, address, data, vram, SIZE);
+    promised(a.number == 0, "an accepted write");
+    return a.count;
+}
+
+static uint32_t record(uint32_t used, uint8_t space, uint32_t address, uint32_t data) {
+    struct zevkholtai_checked t = zevkholtai_append(trace, sizeof trace, used, space, 15, address, data);
+    promised(t.number == 0 && t.length == used + 12, "a recorded write");
+    return t.length;
+}
+
+static int differing(const uint8_t *a, const uint8_t *b) {
+    int n = 0;
+    for (int i = 0; i < SIZE; i++) n += a[i] != b[i];
+    return n;
+}
+
+int main(void) {
+    for (int i = 0; i < SIDE; i++) vram[i * SIDE + i] = HELD;
+    memcpy(marks, vram, SIZE);
+
+    zevkholtai_reset(&card, HELD);
+    draw(REGISTER, FOREGROUND, 0xFFFFFFFF / 255 * (HELD | GREY));
+    draw(REGISTER, FILL_MASK, 0xFFFFFFFF);
+    draw(REGISTER, MODE, FILL);
+    uint32_t count = draw(FRAME, 0, SIZE / 2 - 1) + draw(FRAME, SIZE / 2, SIZE / 2 - 1);
+    for (int i = 0; i < SIZE; i++) promised(vram[i] == (marks[i] | GREY), "a grey pixel with its held plane");
+    promised(count == SIZE, "the count of the fill");
+    printf("grey fill: %u pixels, the held plane as it was\n", (unsigned)count);
+    memcpy(filled, vram, SIZE);
+
+    uint32_t used = zevkholtai_start(trace, sizeof trace, SIZE).length;
+    used = record(used, REGISTER, RASTER, XOR);
+    used = record(used, REGISTER, MODE, STIPPLE);
+    used = record(used, FRAME, 32 * SIDE + 16, 0xFFFFFFFF);
+    for (int y = 24; y < 41; y++) used = record(used, FRAME, y * SIDE + 32, y == 32 ? 0 : 1);
+    struct zevkholtai_checked t = zevkholtai_check(trace, used);
+    promised(t.number == 0 && t.length == SIZE, "a trace for this VRAM");
+    for (int turn = 0; turn < 2; turn++) {
+        struct zevkholtai_ran r = zevkholtai_run(&card, trace + 16, used - 16, vram, SIZE, 4096);
+        promised(r.number == 0 && r.entries == 20 && r.pixels == 48 && r.rest == used - 16, "a whole run");
+        int n = differing(vram, filled);
+        promised(n == (turn == 0 ? 48 : 0), "a caliper");
+        printf("caliper %s: %d pixels differ from the fill\n", turn == 0 ? "drawn" : "taken off", n);
+    }
+
+    struct zevkholtai_card before = card;
+    struct zevkholtai_answer a = zevkholtai_write(&card, FRAME, 15, 62, 1, vram, SIZE);
+    promised(a.number == 7 && a.count == 0, "the number of an address off its boundary");
+    promised(memcmp(&card, &before, sizeof card) == 0 && differing(vram, filled) == 0, "a refusal that changes nothing");
+    printf("off its boundary: number %u, nothing changed\n", (unsigned)a.number);
+    return 0;
+}

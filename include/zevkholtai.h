@@ -1,0 +1,124 @@
+/* The drawing engine of the DECchip 21030 (TGA card, 8 bits per pixel), for hosts in C and C++. Link libhost.a.
+ *
+ * The host keeps the card and its video memory (VRAM) and lends them to each call; the library keeps nothing, allocates
+ * nothing and makes no system call. The caller sees to this: a pointer is valid for the length beside it, and not null
+ * also where that is 0; the places lent to one call do not overlap; a bool is 0 or 1. All else is promised for every input.
+ *
+ * Every answer has a number, the lowest that applies, but 10 comes before all others:
+ *
+ *    0  accepted
+ *    1  the VRAM length is 0, no multiple of 64, or over 2,097,152
+ *    2  space is not 0 (frame) or 1 (register), or lanes exceed 15
+ *    3  lanes are not 15, on a register write or in any mode but simple
+ *    4  no such register
+ *    5  a mode that is not listed, written or in the card handed in
+ *    6  a raster operation with any of bits 11:8 or a pixel shift with any of bits 3:0 set; a card with such an operation
+ *    7  an address off its boundary
+ *    8  a pixel of the span, masked or not, lies outside VRAM
+ *    9  a 64-byte destination write with no 64-byte source loaded
+ *   10  trace bytes malformed
+ *   11  no room for a trace entry or header
+ */
+#ifndef ZEVKHOLTAI_H
+#define ZEVKHOLTAI_H
+
+#include <stdbool.h>
+#include <stddef.h>
+#include <stdint.h>
+
+#ifdef __cplusplus
+extern "C" {
+#endif
+
+/* The whole state: 128 bytes, no padding. */
+struct zevkholtai_card {
+    uint32_t foreground;
+    uint32_t background;
+    uint32_t plane;     /* plane mask */
+    uint32_t pixel;     /* pixel mask */
+    uint32_t mode;
+    uint32_t raster;    /* raster operation, bits 3:0 */
+    uint32_t fill;      /* fill mask: the data register */
+    uint32_t block[8];  /* block colours */
+    uint8_t buffer[64]; /* copy buffer */
+    bool marked;        /* the pixel mask is one-shot */
+    bool loaded;        /* the buffer holds a 64-byte source */
+    bool writing;       /* the next copy write draws its destination */
+    uint8_t held;       /* held planes, which no write can change */
+};
+
+struct zevkholtai_answer {
+    uint32_t number;
+    uint32_t count; /* pixels enabled, whether or not a bit changed; 0 where refused */
+};
+
+struct zevkholtai_checked {
+    uint32_t number;
+    uint32_t length; /* in bytes; 0 where refused */
+};
+
+struct zevkholtai_ran {
+    uint32_t number;
+    uint32_t entries; /* entries applied: at most the budget, the entries of the part, and 4,096 */
+    uint32_t pixels;  /* total count of these: at most 8,388,608 */
+    uint32_t rest;    /* the unread part begins at this byte of the part: 12 * entries */
+};
+
+/* Every register and mark at reset, whatever the card was before, with the planes that are 1 in `held` held. */
+void zevkholtai_reset(struct zevkholtai_card *card, uint8_t held);
+
+/* One write, as the bus delivers it. Accepted, it draws into VRAM and leaves the next card. Refused, it leaves the card and
+ * every byte of VRAM. A byte outside the write's span, a masked bit and a held plane keep their state. */
+struct zevkholtai_answer zevkholtai_write(struct zevkholtai_card *card, uint8_t space, uint8_t lanes, uint32_t address,
+                                          uint32_t data, uint8_t *vram, size_t length);
+
+/* Starts a trace for a VRAM of `length` bytes: a header of no writes in the buffer's first 16 bytes. Answers the trace's
+ * length; or 1, then 11 where the buffer has under 16 bytes, and the buffer keeps every byte. */
+struct zevkholtai_checked zevkholtai_start(uint8_t *buffer, size_t size, uint32_t length);
+
+/* Appends a write to the trace in the buffer's first `used` bytes; bytes past its 12 stay. Answers the trace's new length;
+ * or 10 where those bytes are no trace or the buffer has not so many, 2, or 11 where 12 more bytes don't fit or the trace has
+ * 4,096 entries, and the buffer keeps every byte. */
+struct zevkholtai_checked zevkholtai_append(uint8_t *buffer, size_t size, size_t used, uint8_t space, uint8_t lanes,
+                                            uint32_t address, uint32_t data);
+
+/* Whether the bytes are a trace: 0 or 10. The length answered is that of the VRAM it is for. Where the number is 0, its
+ * entries are the bytes from 16 on. */
+struct zevkholtai_checked zevkholtai_check(const uint8_t *bytes, size_t size);
+
+/* Makes the writes of a part, the entries of a trace, until the budget or the part ends or one is refused. Answers 10 where
+ * the part is not whole entries, has a nonzero pad byte or over 4,096 entries; then 1; then the number of the refused write,
+ * with which the unread part begins. What was drawn before it stays. To go on, hand in the unread part. */
+struct zevkholtai_ran zevkholtai_run(struct zevkholtai_card *card, const uint8_t *part, size_t size, uint8_t *vram,
+                                     size_t length, uint32_t budget);
+
+#ifdef __cplusplus
+}
+#define ZEVKHOLTAI_HOLDS(fact) static_assert(fact, #fact)
+#else
+#define ZEVKHOLTAI_HOLDS(fact) __extension__ _Static_assert(fact, #fact)
+#endif
+
+#define ZEVKHOLTAI_AT(field, offset) ZEVKHOLTAI_HOLDS(offsetof(struct zevkholtai_card, field) == (offset))
+ZEVKHOLTAI_HOLDS(sizeof(bool) == 1);
+ZEVKHOLTAI_HOLDS(sizeof(struct zevkholtai_card) == 128);
+ZEVKHOLTAI_HOLDS(sizeof(struct zevkholtai_answer) == 8);
+ZEVKHOLTAI_HOLDS(sizeof(struct zevkholtai_checked) == 8);
+ZEVKHOLTAI_HOLDS(sizeof(struct zevkholtai_ran) == 16);
+ZEVKHOLTAI_AT(foreground, 0);
+ZEVKHOLTAI_AT(background, 4);
+ZEVKHOLTAI_AT(plane, 8);
+ZEVKHOLTAI_AT(pixel, 12);
+ZEVKHOLTAI_AT(mode, 16);
+ZEVKHOLTAI_AT(raster, 20);
+ZEVKHOLTAI_AT(fill, 24);
+ZEVKHOLTAI_AT(block, 28);
+ZEVKHOLTAI_AT(buffer, 60);
+ZEVKHOLTAI_AT(marked, 124);
+ZEVKHOLTAI_AT(loaded, 125);
+ZEVKHOLTAI_AT(writing, 126);
+ZEVKHOLTAI_AT(held, 127);
+#undef ZEVKHOLTAI_AT
+#undef ZEVKHOLTAI_HOLDS
+
+#endif

@@ -1,0 +1,202 @@
+//! The sample trace: the bedside screen of the demonstration program, 256 by 256 pixels, with the caliper left on.
+//! One card draws it from reset, so plane masks stand for the planes that the demonstration's two cards hold.
+
+use crate::model::{self, Write, FRAME, REGISTER};
+use crate::trace::{self, ENTRY, HEADER, MOST_ENTRIES};
+use std::fs;
+
+const WIDTH: u32 = 256;
+const ROWS: u32 = 256;
+
+const FOREGROUND: u32 = 0x0020;
+const PLANE_MASK: u32 = 0x0028;
+const MODE: u32 = 0x0030;
+const RASTER_OPERATION: u32 = 0x0034;
+const FILL_MASK: u32 = 0x0080;
+
+/// One beat: for each of 64 columns the top row and the number of rows.
+const BEAT: [(u32, u32); 64] = [
+    (170, 2),
+    (170, 2),
+    (170, 2),
+    (170, 2),
+    (170, 2),
+    (170, 2),
+    (170, 2),
+    (169, 3),
+    (167, 4),
+    (165, 4),
+    (163, 4),
+    (162, 3),
+    (162, 3),
+    (163, 4),
+    (165, 4),
+    (167, 4),
+    (169, 3),
+    (170, 2),
+    (170, 2),
+    (170, 4),
+    (172, 8),
+    (170, 10),
+    (138, 34),
+    (96, 44),
+    (96, 44),
+    (138, 37),
+    (173, 15),
+    (176, 12),
+    (170, 8),
+    (170, 2),
+    (170, 2),
+    (169, 3),
+    (169, 2),
+    (167, 4),
+    (165, 4),
+    (163, 4),
+    (160, 5),
+    (157, 5),
+    (155, 4),
+    (154, 3),
+    (154, 3),
+    (155, 4),
+    (157, 5),
+    (160, 5),
+    (163, 4),
+    (165, 4),
+    (167, 4),
+    (169, 2),
+    (169, 3),
+    (170, 2),
+    (170, 2),
+    (170, 2),
+    (170, 2),
+    (170, 2),
+    (170, 2),
+    (170, 2),
+    (170, 2),
+    (170, 2),
+    (170, 2),
+    (170, 2),
+    (170, 2),
+    (170, 2),
+    (170, 2),
+    (170, 2),
+];
+
+/// A trace as it is written; the first refusal is kept.
+struct Recorder {
+    buffer: Vec<u8>,
+    used: usize,
+    refused: u32,
+}
+
+impl Recorder {
+    fn new() -> Recorder {
+        let mut buffer = vec![0; HEADER + ENTRY * MOST_ENTRIES as usize];
+        let (refused, used) = trace::start(&mut buffer, WIDTH * ROWS);
+        Recorder {
+            buffer,
+            used: used as usize,
+            refused,
+        }
+    }
+
+    fn write(&mut self, space: u8, address: u32, data: u32) {
+        if self.refused != 0 {
+            return;
+        }
+        let write = Write {
+            space,
+            lanes: 15,
+            address,
+            data,
+        };
+        let (refused, used) = trace::append(&mut self.buffer, self.used, write);
+        self.refused = refused;
+        self.used = used as usize;
+    }
+
+    fn register(&mut self, offset: u32, data: u32) {
+        self.write(REGISTER, offset, data);
+    }
+
+    /// A box in the foreground colour, one fill a row.
+    fn filled(&mut self, x: u32, y: u32, columns: u32, rows: u32) {
+        for row in y..y + rows {
+            let address = row * WIDTH + x / 4 * 4;
+            self.write(FRAME, address, x % 4 << 16 | (columns - 1));
+        }
+    }
+}
+
+/// The alarm border, four pixels wide, in plane 7 alone.
+fn border(to: &mut Recorder) {
+    to.register(PLANE_MASK, 0x8080_8080);
+    to.register(FOREGROUND, 0xFFFF_FFFF);
+    to.filled(0, 0, 256, 4);
+    to.filled(0, 252, 256, 4);
+    to.filled(0, 0, 4, 256);
+    to.filled(252, 0, 4, 256);
+}
+
+/// The grey screen, in the other planes, so that the border stays.
+fn screen(to: &mut Recorder) {
+    to.register(PLANE_MASK, 0x7F7F_7F7F);
+    to.register(FOREGROUND, 0x3030_3030);
+    to.filled(0, 0, 256, 256);
+}
+
+fn heartbeat(to: &mut Recorder) {
+    to.register(FOREGROUND, 0x7F7F_7F7F);
+    for (x, (top, rows)) in (8..248).zip(BEAT.into_iter().cycle()) {
+        to.filled(x, top, 1, rows);
+    }
+}
+
+/// Two upright lines and a bar between them, by exclusive-or.
+fn caliper(to: &mut Recorder) {
+    to.register(RASTER_OPERATION, 6);
+    to.register(FOREGROUND, 0x4040_4040);
+    to.filled(31, 60, 1, 130);
+    to.filled(95, 60, 1, 130);
+    to.filled(32, 124, 63, 1);
+}
+
+/// The bytes of the sample trace.
+fn trace_bytes() -> Result<Vec<u8>, String> {
+    let mut to = Recorder::new();
+    to.register(MODE, model::mode::OPAQUE_FILL);
+    to.register(FILL_MASK, 0xFFFF_FFFF);
+    border(&mut to);
+    screen(&mut to);
+    heartbeat(&mut to);
+    caliper(&mut to);
+    if to.refused != 0 {
+        return Err(format!("the sample trace is refused: {}", to.refused));
+    }
+    to.buffer.truncate(to.used);
+    Ok(to.buffer)
+}
+
+pub fn save(path: &str) -> Result<(), String> {
+    fs::write(path, trace_bytes()?).map_err(|why| format!("{path}: {why}"))
+}
+
+/// The stored file is what `sample` writes, and the model runs it whole; gives its entries.
+pub fn check() -> Result<u32, String> {
+    let path = concat!(env!("CARGO_MANIFEST_DIR"), "/sample/bedside.trace");
+    let stored = fs::read(path).map_err(|why| format!("{path}: {why}"))?;
+    if stored != trace_bytes()? {
+        return Err(format!("{path} is not what `sample` writes"));
+    }
+    let mut vram = vec![0; (WIDTH * ROWS) as usize];
+    let ran = trace::run(
+        &stored[HEADER..],
+        &mut model::reset(0),
+        &mut vram,
+        MOST_ENTRIES as u32,
+    );
+    if ran.number != 0 || ran.rest as usize + HEADER != stored.len() {
+        return Err(format!("the sample trace runs to {ran:?}"));
+    }
+    Ok(ran.entries)
+}

@@ -1,0 +1,135 @@
+//! What is measured: for each row a card, and writes on it that are all accepted.
+
+use crate::model::mode::{self, MODES};
+use crate::model::{self, Card, Write, FRAME, REGISTER};
+use crate::random::Random;
+
+/// The VRAM of the demonstration program.
+pub const VRAM: usize = 65_536;
+
+/// Turns in one pass over a row; a turn is one write, or the two of a copy.
+pub const TURNS: usize = 1_000;
+
+pub struct Row {
+    pub name: String,
+    pub card: Card,
+    pub writes: Vec<Write>,
+    /// The pixels that a turn covers, masked or not, from each of these places on; none for a register write.
+    pub pixels: usize,
+    pub places: Vec<usize>,
+}
+
+/// Every row with this raster operation and plane mask.
+pub fn rows(raster: u32, plane: u32) -> Vec<Row> {
+    let mut random = Random::of_case(1, 0);
+    let card = Card {
+        foreground: random.word(),
+        background: random.word(),
+        plane,
+        raster,
+        data: random.word(),
+        block: std::array::from_fn(|_| random.word()),
+        ..model::reset(0)
+    };
+    let mut rows: Vec<Row> = MODES
+        .iter()
+        .map(|&(mode, name)| {
+            frame_row(
+                &mut random,
+                &Card {
+                    mode,
+                    ..card.clone()
+                },
+                name,
+            )
+        })
+        .collect();
+    rows.push(copy64_row(&mut random, &card));
+    rows.push(register_row(&mut random, &card));
+    rows
+}
+
+fn empty_row(card: &Card, name: String, pixels: usize) -> Row {
+    Row {
+        name,
+        card: card.clone(),
+        writes: Vec::new(),
+        pixels,
+        places: Vec::new(),
+    }
+}
+
+/// A multiple of the boundary with room for so many pixels after it.
+fn address(random: &mut Random, boundary: usize, pixels: usize) -> u32 {
+    let last = (VRAM - pixels) / boundary;
+    (random.below(last as u64 + 1) as usize * boundary) as u32
+}
+
+fn frame_row(random: &mut Random, card: &Card, name: &str) -> Row {
+    let (pixels, name) = match card.mode {
+        mode::SIMPLE => (4, String::from(name)),
+        mode::COPY => (32, String::from("copy, both writes")),
+        other if mode::is_fill(other) => (2048, format!("{name} of 2,048")),
+        _ => (32, String::from(name)),
+    };
+    let mut row = empty_row(card, name, pixels);
+    for _ in 0..TURNS {
+        let low = if mode::is_fill(card.mode) {
+            random.below(4) as u32
+        } else {
+            0
+        };
+        let boundary = if card.mode == mode::COPY { 8 } else { 4 };
+        let data = match card.mode {
+            mode::COPY => 0xFFFF_FFFF,
+            other if mode::is_fill(other) => low << 16 | (pixels as u32 - 1),
+            _ => random.word(),
+        };
+        let first = address(random, boundary, pixels + low as usize);
+        if card.mode == mode::COPY {
+            let source = address(random, boundary, pixels);
+            row.writes.push(frame_write(source, data));
+        }
+        row.writes.push(frame_write(first, data));
+        row.places.push((first + low) as usize);
+    }
+    row
+}
+
+fn frame_write(address: u32, data: u32) -> Write {
+    Write {
+        space: FRAME,
+        lanes: 15,
+        address,
+        data,
+    }
+}
+
+fn register_write(offset: u32, data: u32) -> Write {
+    Write {
+        space: REGISTER,
+        lanes: 15,
+        address: offset,
+        data,
+    }
+}
+
+fn copy64_row(random: &mut Random, card: &Card) -> Row {
+    let mut row = empty_row(card, String::from("64-byte copy, both writes"), 64);
+    for _ in 0..TURNS {
+        let source = address(random, 64, 64);
+        let destination = address(random, 64, 64);
+        row.writes.push(register_write(0x0160, source));
+        row.writes.push(register_write(0x0164, destination));
+        row.places.push(destination as usize);
+    }
+    row
+}
+
+fn register_row(random: &mut Random, card: &Card) -> Row {
+    let mut row = empty_row(card, String::from("register write"), 0);
+    row.writes = (0..TURNS)
+        .map(|_| register_write(0x0020, random.word()))
+        .collect();
+    row
+}

@@ -1,0 +1,47 @@
+//! The engine against the model: the recorded traces, then numbered cases of writes and of traces.
+
+use super::calls::Calls;
+use super::{all_reached, traces, writes, Other, Outcome, WRITE_CASES};
+use crate::coverage::Coverage;
+use crate::engine;
+use crate::generate::Maker;
+use crate::random::Random;
+use crate::recorded;
+
+/// Cases from `WRITE_CASES` on are traces.
+pub const CASES: u64 = WRITE_CASES + 4_000;
+
+pub(super) const ENGINE: Other = Other {
+    reset: engine::reset,
+    write: engine::write,
+};
+
+/// Runs the cases from first to last; coverage is judged only where all of them ran.
+pub fn compare(seed: u64, first: u64, last: u64) -> Outcome {
+    let recorded = recorded::check_all(engine::run)?;
+    println!("{recorded} recorded traces give their pictures on the engine");
+    println!("seed {seed}, cases {first} to {last}");
+    let mut coverage = Coverage::new();
+    let mut calls = Calls::new();
+    for case in first..=last {
+        let mut maker = Maker::new(Random::of_case(seed, case));
+        let outcome = if case < WRITE_CASES {
+            writes::case(&ENGINE, &mut maker, &mut coverage)
+        } else {
+            traces::case(&mut maker, &mut calls)
+        };
+        outcome.map_err(|why| {
+            format!(
+                "seed {seed} case {case}: {why}\nrun it again with: compare {seed} {case} {case}"
+            )
+        })?;
+    }
+    coverage.print();
+    calls.print();
+    println!("no difference");
+    if first == 0 && last + 1 == CASES {
+        let missing = [coverage.missing(), calls.missing()].concat();
+        return all_reached(&missing).map_err(|why| format!("seed {seed}: {why}"));
+    }
+    Ok(())
+}

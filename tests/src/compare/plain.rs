@@ -1,0 +1,28 @@
+//! The plain implementation against the model: the cases of writes that `compare` gives the engine with the same seed.
+
+use super::{all_reached, writes, Other, WRITE_CASES};
+use crate::coverage::Coverage;
+use crate::fast;
+use crate::generate::Maker;
+use crate::model;
+use crate::random::Random;
+
+const SEED: u64 = 1;
+
+/// The plain implementation has no reset of its own.
+const PLAIN: Other = Other {
+    reset: |_, held| model::reset(held),
+    write: fast::write,
+};
+
+/// Gives the number of writes that were compared.
+pub fn check_all() -> Result<u64, String> {
+    let mut coverage = Coverage::new();
+    for case in 0..WRITE_CASES {
+        let mut maker = Maker::new(Random::of_case(SEED, case));
+        writes::case(&PLAIN, &mut maker, &mut coverage)
+            .map_err(|why| format!("plain implementation, seed {SEED} case {case}: {why}"))?;
+    }
+    all_reached(&coverage.missing())?;
+    Ok(coverage.all_writes())
+}

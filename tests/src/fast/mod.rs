@@ -1,0 +1,105 @@
+//! A plain implementation of the scope paper, written for speed in safe Rust, as the measure beside the engine in `bench`.
+//! It uses the model's card and writes, and shares none of its rules; `model` checks that both give the same.
+
+mod draw;
+mod words;
+
+use crate::model::mode::{
+    BLOCK_FILL, BLOCK_STIPPLE, COPY, OPAQUE_FILL, OPAQUE_STIPPLE, SIMPLE, TRANSPARENT_FILL,
+    TRANSPARENT_STIPPLE,
+};
+use crate::model::{Card, Write};
+
+/// The pixels enabled, or the number of the refusal.
+type Answer = Result<u32, u32>;
+
+/// Bit v is set where v is a mode's code.
+const LISTED: u128 = 1 << SIMPLE
+    | 1 << OPAQUE_STIPPLE
+    | 1 << TRANSPARENT_STIPPLE
+    | 1 << OPAQUE_FILL
+    | 1 << TRANSPARENT_FILL
+    | 1 << BLOCK_STIPPLE
+    | 1 << BLOCK_FILL
+    | 1 << COPY;
+
+fn is_listed(mode: u32) -> bool {
+    mode < 128 && LISTED >> mode & 1 == 1
+}
+
+/// One write: its number and pixel count. It is not inlined, as the engine's can't be.
+#[inline(never)]
+pub fn write(card: &mut Card, vram: &mut [u8], write: Write) -> (u32, u32) {
+    let length = vram.len();
+    let answer = if length == 0 || length % 64 != 0 || length > 1 << 21 {
+        Err(1)
+    } else if write.space > 1 || write.lanes > 15 {
+        Err(2)
+    } else if write.space == 0 {
+        frame(card, vram, write)
+    } else {
+        register(card, vram, write)
+    };
+    match answer {
+        Ok(count) => (0, count),
+        Err(number) => (number, 0),
+    }
+}
+
+fn frame(card: &mut Card, vram: &mut [u8], write: Write) -> Answer {
+    if write.lanes != 15 && card.mode != SIMPLE {
+        return Err(3);
+    }
+    if card.raster > 15 {
+        return Err(if is_listed(card.mode) { 6 } else { 5 });
+    }
+    let count = match card.mode {
+        SIMPLE => draw::simple(card, vram, write)?,
+        OPAQUE_STIPPLE => draw::opaque_stipple(card, vram, write)?,
+        TRANSPARENT_STIPPLE => draw::transparent_stipple(card, vram, write)?,
+        OPAQUE_FILL => draw::opaque_fill(card, vram, write)?,
+        TRANSPARENT_FILL => draw::transparent_fill(card, vram, write)?,
+        BLOCK_STIPPLE => draw::block_stipple(card, vram, write)?,
+        BLOCK_FILL => draw::block_fill(card, vram, write)?,
+        COPY => draw::copy(card, vram, write)?,
+        _ => return Err(5),
+    };
+    if card.marked {
+        card.pixel = 0xFFFF_FFFF;
+        card.marked = false;
+    }
+    Ok(count)
+}
+
+fn register(card: &mut Card, vram: &mut [u8], write: Write) -> Answer {
+    let Write { address, data, .. } = write;
+    if write.lanes != 15 {
+        return Err(3);
+    }
+    if address % 4 != 0 || !matches!(address, 0x20..=0x38 | 0x5C | 0x80 | 0x140..=0x164) {
+        return Err(4);
+    }
+    if !is_listed(card.mode) || (address == 0x30 && !is_listed(data)) {
+        return Err(5);
+    }
+    let bad_raster = address == 0x34 && data & 0xF00 != 0;
+    let bad_shift = address == 0x38 && data & 0xF != 0;
+    if card.raster > 15 || bad_raster || bad_shift {
+        return Err(6);
+    }
+    match address {
+        0x20 => card.foreground = data,
+        0x24 => card.background = data,
+        0x28 => card.plane = data,
+        0x2C => (card.pixel, card.marked) = (data, true),
+        0x30 => card.mode = data,
+        0x34 => card.raster = data & 15,
+        0x38 => card.writing = false,
+        0x5C => (card.pixel, card.marked) = (data, false),
+        0x80 => card.data = data,
+        0x160 => return draw::load64(card, vram, data),
+        0x164 => return draw::unload64(card, vram, data),
+        block => card.block[(block / 4 % 8) as usize] = data,
+    }
+    Ok(0)
+}

@@ -1,0 +1,76 @@
+//! Eight pixels at a time, as a word whose byte i is pixel i.
+
+/// For each byte, the word whose byte i is FFh where bit i is set.
+const SPREAD: [u64; 256] = spread_table();
+
+const fn spread_table() -> [u64; 256] {
+    let mut table = [0; 256];
+    let mut bits = 0;
+    while bits < 256 {
+        let mut i = 0;
+        while i < 8 {
+            if bits >> i & 1 == 1 {
+                table[bits] |= 0xFF << (8 * i);
+            }
+            i += 1;
+        }
+        bits += 1;
+    }
+    table
+}
+
+/// Bits 8k to 8k + 7 of a mask, one byte for each.
+pub fn spread(mask: u32, k: usize) -> u64 {
+    SPREAD[mask.to_le_bytes()[k] as usize]
+}
+
+/// A register of four bytes, twice.
+pub fn twice(register: u32) -> u64 {
+    u64::from(register) << 32 | u64::from(register)
+}
+
+/// The word as the pixels from `first` on take it, which pixel 0 would take from its byte 0 on.
+pub fn from_pixel(word: u64, first: u32) -> u64 {
+    word.rotate_right(8 * (first % 8))
+}
+
+/// What becomes of eight old pixels: `(old & and) ^ xor`.
+#[derive(Clone, Copy)]
+pub struct Change {
+    pub and: u64,
+    pub xor: u64,
+}
+
+impl Change {
+    /// A source drawn with a raster operation, in the planes of a mask.
+    pub fn new(operation: u32, source: u64, mask: u64) -> Change {
+        let bit = |i: u32| 0u64.wrapping_sub(u64::from(operation >> i & 1));
+        let of_zero = (!source & bit(3)) | (source & bit(1));
+        let of_one = (!source & bit(2)) | (source & bit(0));
+        Change {
+            and: (of_zero ^ of_one) & mask | !mask,
+            xor: of_zero & mask,
+        }
+    }
+
+    /// This change in the bytes that are enabled, none in the others.
+    pub fn only(self, enabled: u64) -> Change {
+        Change {
+            and: self.and | !enabled,
+            xor: self.xor & enabled,
+        }
+    }
+
+    /// This change in the bytes that are picked, the other in the rest.
+    pub fn or(self, other: Change, picked: u64) -> Change {
+        Change {
+            and: (self.and & picked) | (other.and & !picked),
+            xor: (self.xor & picked) | (other.xor & !picked),
+        }
+    }
+
+    pub fn apply(self, pixels: &mut [u8; 8]) {
+        let old = u64::from_le_bytes(*pixels);
+        *pixels = ((old & self.and) ^ self.xor).to_le_bytes();
+    }
+}
