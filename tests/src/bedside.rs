@@ -123,7 +123,7 @@ impl Recorder {
     fn filled(&mut self, x: u32, y: u32, columns: u32, rows: u32) {
         for row in y..y + rows {
             let address = row * WIDTH + x / 4 * 4;
-            self.write(FRAME, address, x % 4 << 16 | (columns - 1));
+            self.write(FRAME, address, (x % 4) << 16 | (columns - 1));
         }
     }
 }

@@ -108,7 +108,7 @@ fn is_trace(bytes: &[u8]) -> bool {
 
 /// "10 if it isn't whole entries, has a nonzero pad byte, or exceeds 4,096 entries"
 fn are_entries(part: &[u8]) -> bool {
-    part.len() % ENTRY == 0
+    part.len().is_multiple_of(ENTRY)
         && (part.len() / ENTRY) as u64 <= MOST_ENTRIES
         && part
             .chunks(ENTRY)

@@ -66,30 +66,28 @@ fn address(random: &mut Random, boundary: usize, pixels: usize) -> u32 {
 }
 
 fn frame_row(random: &mut Random, card: &Card, name: &str) -> Row {
-    let (pixels, name) = match card.mode {
-        mode::SIMPLE => (4, String::from(name)),
-        mode::COPY => (32, String::from("copy, both writes")),
-        other if mode::is_fill(other) => (2048, format!("{name} of 2,048")),
-        _ => (32, String::from(name)),
+    let fill = mode::is_fill(card.mode);
+    let copy = card.mode == mode::COPY;
+    let (name, pixels, boundary) = match card.mode {
+        mode::SIMPLE => (String::from(name), 4, 4),
+        mode::COPY => (format!("{name}, both writes"), 32, 8),
+        _ if fill => (format!("{name} of 2,048"), 2048, 4),
+        _ => (String::from(name), 32, 4),
     };
     let mut row = empty_row(card, name, pixels);
     for _ in 0..TURNS {
-        let low = if mode::is_fill(card.mode) {
-            random.below(4) as u32
-        } else {
-            0
-        };
-        let boundary = if card.mode == mode::COPY { 8 } else { 4 };
+        // A fill starts at any pixel; the bits of a stipple are random, a copy takes all its pixels.
+        let low = if fill { random.below(4) as u32 } else { 0 };
         let data = match card.mode {
             mode::COPY => 0xFFFF_FFFF,
-            other if mode::is_fill(other) => low << 16 | (pixels as u32 - 1),
+            _ if fill => low << 16 | (pixels as u32 - 1),
             _ => random.word(),
         };
-        let first = address(random, boundary, pixels + low as usize);
-        if card.mode == mode::COPY {
+        if copy {
             let source = address(random, boundary, pixels);
             row.writes.push(frame_write(source, data));
         }
+        let first = address(random, boundary, pixels + low as usize);
         row.writes.push(frame_write(first, data));
         row.places.push((first + low) as usize);
     }

@@ -12,62 +12,42 @@ const ROUNDS: usize = 5;
 /// Five rounds make 0.3 seconds for each number.
 const ROUND: Duration = Duration::from_millis(60);
 
-/// Seconds that a turn takes.
+/// Seconds that a turn takes; memset and memcpy only where there are pixels.
 pub struct Times {
     pub engine: f64,
     pub plain: f64,
-    /// Memset and memcpy of the same pixels, if there are any.
-    pub memory: Option<(f64, f64)>,
+    pub set: Option<f64>,
+    pub copied: Option<f64>,
 }
 
+/// A card, as one side keeps it, and its picture.
 struct Side<T> {
     card: T,
     vram: Vec<u8>,
 }
 
-/// A pass over the writes; gives the first number that is not 0, else 0, and all pixels.
-fn pass(mut write: impl FnMut(Write) -> (u32, u32), writes: &[Write]) -> (u32, u32) {
-    let mut refused = 0;
-    let mut pixels = 0;
-    for &w in writes {
-        let (number, count) = write(w);
-        if refused == 0 {
-            refused = number;
-        }
-        pixels += count;
-    }
-    (refused, pixels)
-}
-
 impl Side<Kept> {
     fn pass(&mut self, writes: &[Write]) -> (u32, u32) {
-        pass(|w| self.card.write(&mut self.vram, w), writes)
+        pass(writes, |w| self.card.write(&mut self.vram, w))
     }
 }
 
 impl Side<Card> {
     fn pass(&mut self, writes: &[Write]) -> (u32, u32) {
-        pass(|w| fast::write(&mut self.card, &mut self.vram, w), writes)
+        pass(writes, |w| fast::write(&mut self.card, &mut self.vram, w))
     }
 }
 
-/// Seconds for each turn, over as many passes as fill a round.
-fn timed(mut pass: impl FnMut()) -> f64 {
-    let start = Instant::now();
-    let mut turns = 0;
-    loop {
-        pass();
-        turns += TURNS;
-        let elapsed = start.elapsed();
-        if elapsed >= ROUND {
-            return elapsed.as_secs_f64() / turns as f64;
-        }
+/// Makes every write; gives 0 if all were accepted, and the pixels of all.
+fn pass(writes: &[Write], mut write: impl FnMut(Write) -> (u32, u32)) -> (u32, u32) {
+    let mut refused = 0;
+    let mut pixels = 0;
+    for &w in black_box(writes) {
+        let (number, count) = write(w);
+        refused |= number;
+        pixels += count;
     }
-}
-
-fn median(mut times: [f64; ROUNDS]) -> f64 {
-    times.sort_by(f64::total_cmp);
-    times[ROUNDS / 2]
+    (refused, pixels)
 }
 
 pub fn measure(row: &Row) -> Result<Times, String> {
@@ -81,43 +61,58 @@ pub fn measure(row: &Row) -> Result<Times, String> {
         vram: picture.clone(),
     };
     let mut memory = picture.clone();
-    same_once(row, &mut engine, &mut plain)?;
-    let mut rounds = [[0.0; ROUNDS]; 4];
-    for i in 0..ROUNDS {
-        rounds[0][i] = timed(|| {
-            black_box(engine.pass(black_box(&row.writes)));
-        });
-        rounds[1][i] = timed(|| {
-            black_box(plain.pass(black_box(&row.writes)));
-        });
-        if row.pixels > 0 {
-            rounds[2][i] = timed(|| set(row, &mut memory));
-            rounds[3][i] = timed(|| copy(row, &mut memory, &picture));
-        }
-    }
-    let [engine, plain, set, copy] = rounds.map(median);
+    same_work(row, &mut engine, &mut plain)?;
+    let rounds: [[f64; 4]; ROUNDS] = std::array::from_fn(|_| {
+        [
+            timed(|| engine.pass(&row.writes)),
+            timed(|| plain.pass(&row.writes)),
+            timed(|| set(row, &mut memory)),
+            timed(|| copy(row, &mut memory, &picture)),
+        ]
+    });
+    let median_of = |side: usize| median(rounds.map(|round| round[side]));
+    let has_pixels = row.pixels > 0;
     Ok(Times {
-        engine,
-        plain,
-        memory: (row.pixels > 0).then_some((set, copy)),
+        engine: median_of(0),
+        plain: median_of(1),
+        set: has_pixels.then(|| median_of(2)),
+        copied: has_pixels.then(|| median_of(3)),
     })
 }
 
-/// One pass on both sides, so that both are seen to do the same work, and all of it.
-fn same_once(row: &Row, engine: &mut Side<Kept>, plain: &mut Side<Card>) -> Result<(), String> {
-    let given = engine.pass(&row.writes);
-    let same = given == plain.pass(&row.writes)
-        && given.0 == 0
+/// One pass on both sides first: they must do the same work, and all of it.
+fn same_work(row: &Row, engine: &mut Side<Kept>, plain: &mut Side<Card>) -> Result<(), String> {
+    let answer = engine.pass(&row.writes);
+    let same = answer == plain.pass(&row.writes)
         && engine.card.card() == plain.card
         && engine.vram == plain.vram;
-    if same {
-        Ok(())
-    } else {
-        Err(format!("{}: the engine gives something else", row.name))
+    match (answer.0, same) {
+        (0, true) => Ok(()),
+        (0, false) => Err(format!("{}: the two sides differ", row.name)),
+        _ => Err(format!("{}: a write is refused", row.name)),
     }
 }
 
-/// The length is a number that the compiler can't see, so that every turn calls memset.
+/// Seconds for each turn, over as many passes as fill a round.
+fn timed<T>(mut pass: impl FnMut() -> T) -> f64 {
+    let start = Instant::now();
+    let mut turns = 0;
+    loop {
+        black_box(pass());
+        turns += TURNS;
+        let elapsed = start.elapsed();
+        if elapsed >= ROUND {
+            return elapsed.as_secs_f64() / turns as f64;
+        }
+    }
+}
+
+fn median(mut times: [f64; ROUNDS]) -> f64 {
+    times.sort_by(f64::total_cmp);
+    times[ROUNDS / 2]
+}
+
+/// The compiler doesn't see the length, so every turn calls memset.
 fn set(row: &Row, vram: &mut [u8]) {
     let pixels = black_box(row.pixels);
     let value = black_box(0x30);

@@ -15,7 +15,7 @@ fn span(
     low: usize,
     pixels: usize,
 ) -> Result<&mut [u8], u32> {
-    if address % boundary != 0 {
+    if !address.is_multiple_of(boundary) {
         return Err(7);
     }
     let first = address as usize + low;
@@ -98,28 +98,22 @@ fn fill_span(vram: &mut [u8], write: Write) -> Result<(&mut [u8], u32), u32> {
 
 /// A span on which the changes of thirty-two pixels repeat.
 fn fill(pixels: &mut [u8], change: impl Fn(usize) -> Change) {
-    let mut and = [0; 32];
-    let mut xor = [0; 32];
-    let both = and.as_chunks_mut().0.iter_mut().zip(xor.as_chunks_mut().0);
-    for (k, (and, xor)) in both.enumerate() {
-        let change = change(k);
-        *and = change.and.to_le_bytes();
-        *xor = change.xor.to_le_bytes();
-    }
-    let (turns, rest) = pixels.as_chunks_mut::<32>();
-    if and == [0; 32] {
+    let changes: [Change; 4] = std::array::from_fn(change);
+    let (turns, rest) = pixels.as_chunks_mut();
+    if changes.iter().all(|change| change.and == 0) {
         // Nothing of the old pixels stays.
-        turns.fill(xor);
+        let mut turn = [0; 32];
+        stipple(&mut turn, |k| changes[k]);
+        turns.fill(turn);
     } else {
         for turn in turns {
-            for i in 0..32 {
-                turn[i] = (turn[i] & and[i]) ^ xor[i];
-            }
+            stipple(turn, |k| changes[k]);
         }
     }
-    for (i, pixel) in rest.iter_mut().enumerate() {
-        *pixel = (*pixel & and[i]) ^ xor[i];
-    }
+    let mut last = [0; 32];
+    last[..rest.len()].copy_from_slice(rest);
+    stipple(&mut last, |k| changes[k]);
+    rest.copy_from_slice(&last[..rest.len()]);
 }
 
 /// The set bits of a mask that repeats over so many pixels.

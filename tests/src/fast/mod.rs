@@ -31,7 +31,7 @@ fn is_listed(mode: u32) -> bool {
 #[inline(never)]
 pub fn write(card: &mut Card, vram: &mut [u8], write: Write) -> (u32, u32) {
     let length = vram.len();
-    let answer = if length == 0 || length % 64 != 0 || length > 1 << 21 {
+    let answer = if length == 0 || !length.is_multiple_of(64) || length > 1 << 21 {
         Err(1)
     } else if write.space > 1 || write.lanes > 15 {
         Err(2)
@@ -76,7 +76,7 @@ fn register(card: &mut Card, vram: &mut [u8], write: Write) -> Answer {
     if write.lanes != 15 {
         return Err(3);
     }
-    if address % 4 != 0 || !matches!(address, 0x20..=0x38 | 0x5C | 0x80 | 0x140..=0x164) {
+    if !address.is_multiple_of(4) || !matches!(address, 0x20..=0x38 | 0x5C | 0x80 | 0x140..=0x164) {
         return Err(4);
     }
     if !is_listed(card.mode) || (address == 0x30 && !is_listed(data)) {

@@ -8,7 +8,7 @@ pub const LARGEST_VRAM: u64 = 2_097_152;
 
 /// Number 1.
 pub fn bad_length(length: u64) -> bool {
-    length == 0 || length % 64 != 0 || length > LARGEST_VRAM
+    length == 0 || !length.is_multiple_of(64) || length > LARGEST_VRAM
 }
 
 /// Number 2, which appending to a trace tests too.
@@ -61,7 +61,7 @@ fn span(card: &Card, write: Write) -> Option<Span> {
 
 /// Number 7.
 fn off_boundary(card: &Card, write: Write) -> bool {
-    span(card, write).is_some_and(|span| span.address % span.boundary != 0)
+    span(card, write).is_some_and(|span| !span.address.is_multiple_of(span.boundary))
 }
 
 /// Number 8.
