@@ -209,9 +209,10 @@ const TABLE: [Row; 19] = [
 pub fn find(offset: u32) -> Row
     ensures { λ r. ⌜ r ≡ rowAt offset ⌝ }
 {
+    let rows = TABLE;
     let mut i: usize = 0;
     while i < 19 {
-        let row = TABLE[i];
+        let row = rows[i];
         if row.offset == offset {
             return row;
         }

@@ -10,10 +10,10 @@ use Rattle.card.proofs.find.Statement.{statement}
 use Rattle.card.proofs.find.Tie as tie
 
 abbrev Inv-loop : tie.InvT-loop
-Inv-loop offset i₀ i = (i ≤ 19) × (rowIn (drop i table) offset ≡ rowAt offset)
+Inv-loop offset rows i₀ i = (i ≤ 19) × (rowIn (drop i table) offset ≡ rowAt offset)
 
 abbrev μ-loop : tie.MeasureT-loop
-μ-loop offset i₀ i = 19 - i
+μ-loop offset rows i₀ i = 19 - i
 
 loop-holds : tie.Need-loop-holds Inv-loop μ-loop
 unfolding rowAt
