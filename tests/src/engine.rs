@@ -22,7 +22,19 @@ struct Card {
     held: u8,
 }
 
-const _: () = assert!(std::mem::size_of::<Card>() == 128);
+// The layout that include/zevkholtai.h promises.
+const _: () = {
+    use std::mem::{offset_of, size_of};
+    assert!(size_of::<Card>() == 128 && size_of::<Answer>() == 8);
+    assert!(size_of::<Checked>() == 8 && size_of::<Ran>() == 16);
+    assert!(offset_of!(Card, foreground) == 0 && offset_of!(Card, background) == 4);
+    assert!(offset_of!(Card, plane) == 8 && offset_of!(Card, pixel) == 12);
+    assert!(offset_of!(Card, mode) == 16 && offset_of!(Card, raster) == 20);
+    assert!(offset_of!(Card, fill) == 24 && offset_of!(Card, block) == 28);
+    assert!(offset_of!(Card, buffer) == 60 && offset_of!(Card, marked) == 124);
+    assert!(offset_of!(Card, loaded) == 125 && offset_of!(Card, writing) == 126);
+    assert!(offset_of!(Card, held) == 127);
+};
 
 #[repr(C)]
 struct Answer {

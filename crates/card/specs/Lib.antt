@@ -1,3 +1,3 @@
--- What the crate `card` means: document 01, "Registers".
+-- What the crate `card` means: scope paper, "Registers".
 pub mod Registers
 pub mod Reset

@@ -1,4 +1,4 @@
--- Document 01, "Registers": the one table, and what reading and storing by it mean.
+-- Scope paper, "Registers": the one table, and what reading and storing by it mean.
 -- Where it differs from the manual (000) and from Linux: docs/CHIP.md.
 use mathlib.Core.Bool.{Bool, true, false, cond, _||_}
 use mathlib.Core.List.{List, [], _∷_}

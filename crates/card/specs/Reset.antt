@@ -1,4 +1,4 @@
--- Document 01, "Registers", the column "At reset" and the paragraph on reset.
+-- Scope paper, "Registers", the column "At reset" and the paragraph on reset.
 use mathlib.Core.Bool.{false}
 use Prim.Native.Nat.{ℕ}
 use lib.ListN.{replicate}
@@ -6,7 +6,7 @@ use Rattle.card.specs.declared.Card.{Card}
 use Rattle.card.specs.Registers.{rowAt}
 
 -- every register as the table has it; the copy buffer zeros and unloaded, the direction "read source".
--- The held planes H (document 01's own term) are chosen here, and no write can change them
+-- The held planes H (the scope paper's own term) are chosen here, and no write can change them
 unfoldable pub resetCard : ℕ → Card
 resetCard h =
     record {

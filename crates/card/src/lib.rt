@@ -52,7 +52,7 @@ pub struct Card {
     pub held: u8,
 }
 
-// One write, as the bus delivers it.
+// One write, as the bus delivers it: space 0 is the frame, 1 the registers. Lanes, the scope paper's word, are the byte enables of the bus.
 pub struct Write {
     pub space: u8,
     pub lanes: u8,

@@ -1,4 +1,4 @@
--- What the crate `engine` means: document 01, "Numbers returned", "How one pixel is made" and "Modes".
+-- What the crate `engine` means: scope paper, "Numbers returned", "How one pixel is made" and "Modes".
 pub mod Modes
 pub mod Refusal
 pub mod Writes

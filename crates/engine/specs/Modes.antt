@@ -1,4 +1,4 @@
--- Document 01, "Modes" and the first lines of "How one pixel is made": for each mode the first pixel, the width of the span,
+-- Scope paper, "Modes" and the first lines of "How one pixel is made": for each mode the first pixel, the width of the span,
 -- which pixels are enabled, and what each takes. Nothing here looks at the picture.
 use mathlib.Core.Bool.{Bool, true, false, cond, not, _&&_, _||_}
 use mathlib.Core.List.{List, [], _∷_}

@@ -1,4 +1,4 @@
--- Document 01, "Modes", the last paragraph: read-back of n pixels from address a.
+-- Scope paper, "Modes", the last paragraph: read-back of n pixels from address a.
 use mathlib.Core.Bool.{cond}
 use mathlib.Core.List.{List, []}
 use Prim.Native.Nat.{ℕ, _+_}

@@ -1,5 +1,6 @@
 -- A `&mut Card` that is lent to an entry, for the walks of the entries.
 --     cardS, byteS, wordS  a card, a `u8` and a `u32` among the parameters of a signature
+--     byte-stay, word-stay, byte-goes, word-goes       what a walk has of a number at exit
 --     spell, typed         a card's machine value, and that a value which is a card's has the type of a card's place in memory
 --     card-opens           the borrow is opened: the card's place in memory, with the card's machine value in it
 --     card-closes          the borrow is closed at another card, whose machine value now lies there
@@ -32,6 +33,8 @@ use denote.Signature.{Slot, plain}
 use denote.Steps.{opens, closes, owned, facts}
 use denote.Struct.Steps.{spelt}
 use denote.Struct.Laws as LL
+use denote.Triple.Walked.{Stay, stay-dropped, Goes, goes-dropped}
+use denote.Exit.{yes}
 use Rattle.card.specs.declared.Card.{Card}
 use Rattle.card.proofs.Card as T
 use Rattle.card.proofs.Card.Laws as T′
@@ -44,6 +47,19 @@ byteS = plain (λ _. u8)
 
 abbrev pub wordS : {n : ℕ} → Slot n
 wordS = plain (λ _. u32)
+
+-- nothing is had of a number at exit, and nothing is said of it
+abbrev pub byte-stay : {n : ℕ} → Stay (byteS {n = n}) yes
+byte-stay = stay-dropped byteS yes
+
+abbrev pub word-stay : {n : ℕ} → Stay (wordS {n = n}) yes
+word-stay = stay-dropped wordS yes
+
+pub byte-goes : {M : Type 1} (𝓤 : URA M) (H : Heap 𝓤) (A : Atoms 𝓤) (W : Given 𝓤 H A) (n : ℕ) → Goes 𝓤 H A W n byteS yes byte-stay
+byte-goes 𝓤 H A W n = goes-dropped 𝓤 H A W n byteS yes (λ κs x f. refl)
+
+pub word-goes : {M : Type 1} (𝓤 : URA M) (H : Heap 𝓤) (A : Atoms 𝓤) (W : Given 𝓤 H A) (n : ℕ) → Goes 𝓤 H A W n wordS yes word-stay
+word-goes 𝓤 H A W n = goes-dropped 𝓤 H A W n wordS yes (λ κs x f. refl)
 
 abbrev pub spell : Card → Val
 spell c = LL.val T.the-type T′.the-laws c
@@ -64,7 +80,8 @@ module _ {M : Type 1} {𝓤 : URA M} {H : Heap 𝓤} {A : Atoms 𝓤} {K : Type 
 module _ {M : Type 1} {𝓤 : URA M} {H : Heap 𝓤} {A : Atoms 𝓤} {K : Type 0} {W : Given 𝓤 H A} {Γ : List (Item 𝓤)} {G : Goal 𝓤 H} where
   pub card-opens : K → Soaks G → {κ : Lft} {q : Share} {γ : GName} (c : Card) (b o : ℕ)
       → (Is T.the-row c (spell c ∷ [])
-      → Seq K W (‵ (cellAt fullShare (T.the-row .mir) (spell c ∷ []) b o) ∷ ‵ (fobor κ q (Body (mem T.the-row) b o γ)) ∷ ‵ (fobs γ (T.the-row .coded .code c)) ∷ ‵ (fauth γ (T.the-row .coded .code c)) ∷ Γ) G)
+      → Seq K W (‵ (cellAt fullShare (T.the-row .mir) (spell c ∷ []) b o) ∷ ‵ (fobor κ q (Body (mem T.the-row) b o γ)) ∷ ‵ (fobs γ (T.the-row .coded .code c)) ∷ ‵
+      (fauth γ (T.the-row .coded .code c)) ∷ Γ) G)
       → Seq K W (‵ (fobs γ (T.the-row .coded .code c)) ∷ ‵ (fbor κ (Body (mem T.the-row) b o γ)) ∷ ‵ (flft κ q) ∷ Γ) G
   card-opens t z c b o k =
       opens t z T.the-row {h = c} b o (λ vs.

@@ -1,4 +1,4 @@
--- How one pixel is made, over a width of w bits. Document 01, "How one pixel is made"; manual (000) Table 4-21.
+-- How one pixel is made, over a width of w bits. Scope paper, "How one pixel is made"; manual (000) Table 4-21.
 use mathlib.Core.Bool.{Bool, true, false, cond}
 use Prim.Native.Nat.{ℕ, zero, suc, _+_, _-_, _*_, _/_, _%_, _^_}
 use lib.Dec.{eqb, ltb}

@@ -1,4 +1,4 @@
--- Document 01, "Traces": numbers are little-endian.
+-- Scope paper, "Traces": numbers are little-endian.
 use mathlib.Core.List.{List, [], _∷_}
 use Prim.Native.Nat.{ℕ, _+_, _*_, _^_}
 use lib.ListN.{getD}

@@ -1,4 +1,4 @@
--- What the crate `trace` means: document 01, "Traces".
+-- What the crate `trace` means: scope paper, "Traces".
 pub mod Bytes
 pub mod Traces
 pub mod Recording

@@ -1,4 +1,4 @@
--- Document 01, "Traces", the second paragraph: running a part of a trace.
+-- Scope paper, "Traces", the second paragraph: running a part of a trace.
 use mathlib.Core.Bool.{cond}
 use mathlib.Core.List.{List, [], _∷_}
 use Prim.Native.Nat.{ℕ, zero, suc, _+_, _*_}

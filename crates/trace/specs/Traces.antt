@@ -1,4 +1,4 @@
--- Document 01, "Traces", the first paragraph: the header and the entries, as bytes and back.
+-- Scope paper, "Traces", the first paragraph: the header and the entries, as bytes and back.
 use mathlib.Core.Bool.{Bool, true, cond, not, _&&_}
 use mathlib.Core.List.{List, [], _∷_, _++_}
 use Prim.Native.Nat.{ℕ, zero, suc, _+_, _*_, _/_, _%_, _^_, _<_}
