@@ -26,7 +26,7 @@ fn draw_at(vram: &mut [u8], first: usize, s: Strokes) -> u32
 }
 
 // A frame write.
-pub fn frame(card: Card, w: Write, vram: &mut [u8]) -> Answer
+pub(crate) fn frame(card: Card, w: Write, vram: &mut [u8]) -> Answer
     requires { ⌜ (refusal card w (length (now vram)) ≡ 0) × (w .space ≡ 1 → ⊥) ⌝ }
     ensures { λ r. ⌜ Written card w (now (vram .entry)) r (now (vram .exit)) ⌝ }
 {
@@ -57,7 +57,7 @@ fn copy_out(card: Card, address: u32, vram: &mut [u8]) -> u32
 }
 
 // A register write. Only the 64-byte destination draws.
-pub fn register(card: Card, w: Write, vram: &mut [u8]) -> Answer
+pub(crate) fn register(card: Card, w: Write, vram: &mut [u8]) -> Answer
     requires { ⌜ (refusal card w (length (now vram)) ≡ 0) × (w .space ≡ 1) ⌝ }
     ensures { λ r. ⌜ Written card w (now (vram .entry)) r (now (vram .exit)) ⌝ }
 {

@@ -24,7 +24,7 @@ fn used_up(card: Card) -> Card
 }
 
 // After a frame write. Copy mode looks at the picture, and so has to find its span inside.
-pub fn frame(card: Card, w: Write, vram: &[u8]) -> Card
+pub(crate) fn frame(card: Card, w: Write, vram: &[u8]) -> Card
     requires { ⌜ (isCopy (modeOf (card .mode)) ≡ true → w .address + 32 ≤ length (now vram)) ⌝ }
     ensures { λ r. ⌜ r ≡ afterFrame card w (now (vram .entry)) ⌝ }
 {
@@ -45,7 +45,7 @@ pub fn frame(card: Card, w: Write, vram: &[u8]) -> Card
 }
 
 // After a register write. The 64-byte source looks at the picture, and so has to find its span inside.
-pub fn register(card: Card, w: Write, vram: &[u8]) -> Card
+pub(crate) fn register(card: Card, w: Write, vram: &[u8]) -> Card
     requires { ⌜ (code (registerOf w) ≡ 10 → w .«data» + 64 ≤ length (now vram)) ⌝ }
     ensures { λ r. ⌜ r ≡ afterRegister card w (now (vram .entry)) ⌝ }
 {

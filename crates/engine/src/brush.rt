@@ -78,7 +78,7 @@ fn operation_of(m: Mode, raster: u32) -> u8
 }
 
 // The strokes of a frame write.
-pub fn strokes(m: Mode, card: Card, w: Write) -> Strokes
+pub(crate) fn strokes(m: Mode, card: Card, w: Write) -> Strokes
     ensures { λ r. ⌜ Draws r (cond (isBlock m) 3 (card .raster % 16)) card (frameSpan m card w) ⌝ }
 {
     let e = reach::of_frame(m, w);
@@ -98,7 +98,7 @@ pub fn strokes(m: Mode, card: Card, w: Write) -> Strokes
 }
 
 // The strokes of one half of a 64-byte destination at an address: the half that starts at buffer byte `at`, which is 0 or 32.
-pub fn half_strokes(card: Card, address: u32, at: usize) -> Strokes
+pub(crate) fn half_strokes(card: Card, address: u32, at: usize) -> Strokes
     requires { ⌜ at ≤ 32 ⌝ }
     ensures { λ r. ⌜ Draws r (card .raster % 16) card (halfSpan card address at) ⌝ }
 {

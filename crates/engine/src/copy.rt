@@ -9,7 +9,7 @@ ghost use Rattle.span.specs.Fragments.{listed};
 use crate::pattern;
 
 // Copy mode's source: 32 pixels where the bit is set, else 0; the other half of the buffer stays.
-pub fn read_32(vram: &[u8], at: usize, bits: u32, buffer: [u8; 64]) -> [u8; 64]
+pub(crate) fn read_32(vram: &[u8], at: usize, bits: u32, buffer: [u8; 64]) -> [u8; 64]
     requires { ⌜ at + 32 ≤ length (now vram) ⌝ }
     ensures { λ r. ⌜ r ≡ listed 32 (λ i. cond (bit bits i) (getD (now (vram .entry)) (at + i) 0) 0) ++ drop 32 buffer ⌝ }
 {
@@ -23,7 +23,7 @@ pub fn read_32(vram: &[u8], at: usize, bits: u32, buffer: [u8; 64]) -> [u8; 64]
 }
 
 // The 64-byte copy's source: all 64 pixels.
-pub fn read_64(vram: &[u8], at: usize) -> [u8; 64]
+pub(crate) fn read_64(vram: &[u8], at: usize) -> [u8; 64]
     requires { ⌜ at + 64 ≤ length (now vram) ⌝ }
     ensures { λ r. ⌜ r ≡ take 64 (drop at (now (vram .entry))) ⌝ }
 {

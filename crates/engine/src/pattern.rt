@@ -17,7 +17,7 @@ fn cleared(b: u8, h: u8) -> u8
 }
 
 // The effective masks of the pixels whose address is 0, 1, 2 and 3 mod 4.
-pub fn masks(card: Card) -> [u8; 4]
+pub(crate) fn masks(card: Card) -> [u8; 4]
     ensures { λ r. ⌜ ((p : ℕ) → getD r (p % 4) 0 ≡ effective card p) ⌝ }
 {
     let m = card.plane;
@@ -47,7 +47,7 @@ fn two_words(a: u32, b: u32) -> [u8; 8]
 }
 
 // x where b holds, else y.
-pub fn either(b: bool, x: u8, y: u8) -> u8
+pub(crate) fn either(b: bool, x: u8, y: u8) -> u8
     ensures { λ r. ⌜ r ≡ cond b x y ⌝ }
 {
     if b { x } else { y }
@@ -69,14 +69,14 @@ fn choose(pick: u32, on: [u8; 8], off: [u8; 8], phase: u32) -> [u8; 32]
 }
 
 // Pixel k takes byte (its address mod 4) of x where bit k of `pick` is set, else of y.
-pub fn words(pick: u32, x: u32, y: u32, phase: u32) -> [u8; 32]
+pub(crate) fn words(pick: u32, x: u32, y: u32, phase: u32) -> [u8; 32]
     ensures { λ r. ⌜ r ≡ listed 32 (λ k. cond (bit pick k) (byte x ((phase + k) % 4)) (byte y ((phase + k) % 4))) ⌝ }
 {
     choose(pick, two_words(x, x), two_words(y, y), phase)
 }
 
 // Pixel k takes byte (its address mod 8) of the two colours.
-pub fn colours(a: u32, b: u32, phase: u32) -> [u8; 32]
+pub(crate) fn colours(a: u32, b: u32, phase: u32) -> [u8; 32]
     ensures { λ r. ⌜ r ≡ listed 32 (λ k. byte (getD (a ∷ b ∷ []) ((phase + k) % 8 / 4) 0) ((phase + k) % 4)) ⌝ }
 {
     let both = two_words(a, b);
@@ -84,7 +84,7 @@ pub fn colours(a: u32, b: u32, phase: u32) -> [u8; 32]
 }
 
 // Half of the copy buffer, from a place on.
-pub fn half(buffer: [u8; 64], at: usize) -> [u8; 32]
+pub(crate) fn half(buffer: [u8; 64], at: usize) -> [u8; 32]
     requires { ⌜ at ≤ 32 ⌝ }
     ensures { λ r. ⌜ r ≡ listed 32 (λ k. getD buffer (at + k) 0) ⌝ }
 {

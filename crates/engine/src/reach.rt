@@ -31,7 +31,7 @@ fn of_fill(w: Write) -> Extent
 }
 
 // The span of a frame write.
-pub fn of_frame(m: Mode, w: Write) -> Extent
+pub(crate) fn of_frame(m: Mode, w: Write) -> Extent
     ensures { λ r. ⌜ ((c : Card) → (r .first ≡ frameSpan m c w .first) × (r .width ≡ frameSpan m c w .width)) ⌝ }
 {
     match m {
@@ -48,7 +48,7 @@ pub fn of_frame(m: Mode, w: Write) -> Extent
 }
 
 // The span of any write. g is the code of the register that it names.
-pub fn of_write(card: Card, w: Write, g: u8) -> Extent
+pub(crate) fn of_write(card: Card, w: Write, g: u8) -> Extent
     requires { ⌜ g ≡ code (registerOf w) ⌝ }
     ensures { λ r. ⌜ (r .first ≡ spanOf card w .first) × (r .width ≡ spanOf card w .width) ⌝ }
 {

@@ -43,7 +43,7 @@ fn bad_lanes(card: Card, w: Write) -> bool
 }
 
 // The code of the register that a write names.
-pub fn register_code(w: Write) -> u8
+pub(crate) fn register_code(w: Write) -> u8
     ensures { λ r. ⌜ r ≡ code (registerOf w) ⌝ }
 {
     let row = card::find(w.address);

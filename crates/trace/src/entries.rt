@@ -11,7 +11,7 @@ use crate::words::word_at;
 use card::Write;
 
 // The write of the entry that starts at `at`.
-pub fn write_at(part: &[u8], at: usize) -> Write
+pub(crate) fn write_at(part: &[u8], at: usize) -> Write
     requires { ⌜ at + 12 ≤ length (now part) ⌝ }
     ensures { λ r. ⌜ r ≡ writeAt (now (part .entry)) at ⌝ }
 {
@@ -24,7 +24,7 @@ pub fn write_at(part: &[u8], at: usize) -> Write
 }
 
 // The entry of a write stored from `at` on.
-pub fn put_entry(b: &mut [u8], at: usize, w: Write)
+pub(crate) fn put_entry(b: &mut [u8], at: usize, w: Write)
     requires { ⌜ at + 12 ≤ length (now b) ⌝ }
     ensures { λ _. ⌜ now (b .exit) ≡ sets (now (b .entry)) at (entry w) ⌝ }
 {
@@ -34,7 +34,7 @@ pub fn put_entry(b: &mut [u8], at: usize, w: Write)
 }
 
 // The part is whole entries, not too many, with every pad byte zero.
-pub fn well_formed(part: &[u8]) -> bool
+pub(crate) fn well_formed(part: &[u8]) -> bool
     ensures { λ r. ⌜ r ≡ wellFormed (now (part .entry)) ⌝ }
 {
     let n = part.len();

@@ -10,7 +10,7 @@ use crate::words::word_at;
 use engine::refusal::bad_length;
 
 // The header of so many entries for a VRAM of `vram` bytes, stored at the front.
-pub fn put_header(b: &mut [u8], count: u32, vram: u32)
+pub(crate) fn put_header(b: &mut [u8], count: u32, vram: u32)
     requires { ⌜ (16 ≤ length (now b)) × (16 + 12 * count < 2 ^ 32) ⌝ }
     ensures { λ _. ⌜ now (b .exit) ≡ sets (now (b .entry)) 0 (header count vram) ⌝ }
 {
@@ -21,7 +21,7 @@ pub fn put_header(b: &mut [u8], count: u32, vram: u32)
 }
 
 // The bytes are a trace.
-pub fn is_trace(b: &[u8]) -> bool
+pub(crate) fn is_trace(b: &[u8]) -> bool
     ensures { λ r. ⌜ r ≡ isTrace (now (b .entry)) ⌝ }
 {
     if b.len() < 16 {

@@ -14,7 +14,7 @@ fn joined(a: u8, b: u8, c: u8, d: u8) -> u32
 }
 
 // The number whose first byte stands at `at`.
-pub fn word_at(b: &[u8], at: usize) -> u32
+pub(crate) fn word_at(b: &[u8], at: usize) -> u32
     requires { ⌜ at + 4 ≤ length (now b) ⌝ }
     ensures { λ r. ⌜ r ≡ word (now (b .entry)) at ⌝ }
 {
@@ -22,7 +22,7 @@ pub fn word_at(b: &[u8], at: usize) -> u32
 }
 
 // Four bytes stored from `at` on.
-pub fn put_bytes(b: &mut [u8], at: usize, x: u8, y: u8, z: u8, t: u8)
+pub(crate) fn put_bytes(b: &mut [u8], at: usize, x: u8, y: u8, z: u8, t: u8)
     requires { ⌜ at + 4 ≤ length (now b) ⌝ }
     ensures { λ _. ⌜ now (b .exit) ≡ sets (now (b .entry)) at (x ∷ y ∷ z ∷ t ∷ []) ⌝ }
 {
@@ -33,7 +33,7 @@ pub fn put_bytes(b: &mut [u8], at: usize, x: u8, y: u8, z: u8, t: u8)
 }
 
 // The bytes of a number stored from `at` on.
-pub fn put_word(b: &mut [u8], at: usize, x: u32)
+pub(crate) fn put_word(b: &mut [u8], at: usize, x: u32)
     requires { ⌜ at + 4 ≤ length (now b) ⌝ }
     ensures { λ _. ⌜ now (b .exit) ≡ sets (now (b .entry)) at (bytes x) ⌝ }
 {
