@@ -1,5 +1,5 @@
--- Demand 2, the last sentence: traces written and read back give the same writes, and equal writes for equal memory lengths give
--- equal bytes. Assumes nothing but that the writes are as the bus delivers them.
+-- Demand 2, the last sentence: traces written and read back give the same writes, through `check` and `run` too, and equal writes for
+-- equal memory lengths give equal bytes. Assumes nothing but that the writes are as the bus delivers them.
 use mathlib.Core.Path.{_≡_, refl, ap, sym, _∙_}
 use mathlib.Core.Bool.{Bool, true, false, cond}
 use mathlib.Core.List.{List, [], _∷_, _++_}
@@ -9,18 +9,23 @@ use lib.Dec.{eqb}
 use lib.ListN.{length, take, drop, length-append}
 use lib.Seq.{take-at}
 use borrow.Author.Tests.{eq-eqb, ne-eqb}
+use Rattle.card.specs.declared.Card.{Card}
 use Rattle.card.specs.declared.Write.{Write}
 use Rattle.engine.specs.Refusal.{badLength}
 use Rattle.span.specs.Fragments.{Bytes}
 use Rattle.trace.specs.Bytes.{word}
-use Rattle.trace.specs.Traces.{largest, Delivered, encoded, writes, isTrace, malformed, trace, decoded}
+use Rattle.trace.specs.Traces.{largest, Delivered, encoded, writes, wellFormed, isTrace, malformed, trace, decoded, checkNumber, checkLength, checkPart}
 use Rattle.trace.specs.Recording.{startNumber, startLength, started, appendNumber, appendLength, appended}
+use Rattle.trace.specs.Run.{nothing, ran, run}
+use Rattle.trace.proofs.Tested.{traced}
+use Rattle.trace.proofs.Checking.{good}
 use Rattle.trace.proofs.Encoding.{encoded-writes}
-use Rattle.trace.proofs.Decoding.{Every, none, more, count-word, vram-word, body, writes-entries, length-encoded, decoded-encoded}
+use Rattle.trace.proofs.Decoding.{Every, none, more, count-word, vram-word, body, writes-entries, length-encoded, encoded-trace, decoded-encoded}
 use Rattle.trace.proofs.RecordingTests.{good-start, appendable}
 use Rattle.trace.proofs.Growing.{same-count, count-below}
 
--- an accepted start and any appends, refused ones among them, have recorded these writes: the buffer, and the length returned last
+-- an accepted start and any appends, refused ones among them, have recorded these writes: the buffer, and the length that the last
+-- accepted one returned
 pub data Recorded (vram : ℕ) : List Write → List ℕ → ℕ → Type 0 where
   begun : (b : List ℕ) → startNumber (length b) vram ≡ 0 → Recorded vram [] (started b vram) (startLength (length b) vram)
   and-then : {ws : List Write} {b : List ℕ} {used : ℕ} → Recorded vram ws b used
@@ -95,6 +100,34 @@ recorded r = holds r .spelled
 -- it is read back as the same writes
 pub read-back : {vram : ℕ} {ws : List Write} {b : List ℕ} {used : ℕ} → Recorded vram ws b used → decoded (take used b) ≡ trace vram ws
 read-back r = let h = holds r in ap decoded (h .spelled) ∙ decoded-encoded _ _ (h .good) (h .few) (h .delivered)
+
+-- what `check` answers for the bytes v of a trace of these writes: it accepts them, gives the VRAM length that the trace was started for,
+-- and hands back a part that `run` takes (not 10), whose entries are the writes appended, each as it was and in their order
+pub record Checks (vram : ℕ) (ws : List Write) (v : List ℕ) : Type 0 where
+  pub number : checkNumber v ≡ 0
+  pub memory : checkLength v ≡ vram
+  pub runnable : wellFormed (checkPart v) ≡ true
+  pub same : writes (checkPart v) ≡ ws
+
+-- so it answers for what a start and any appends recorded, the first `used` bytes of the buffer
+pub checked : {vram : ℕ} {ws : List Write} {b : List ℕ} {used : ℕ} → Recorded vram ws b used → Checks vram ws (take used b)
+checked {vram} {ws} r =
+    let h = holds r in
+    let t : isTrace (encoded vram ws) ≡ true = encoded-trace vram ws (h .good) (h .few) in
+    let (part, number, memory) = good (encoded vram ws) t in
+    rw (h .spelled)
+    (record {
+      number = sym number;
+      memory = sym memory ∙ vram-word vram ws (h .good) (h .few);
+      runnable = ap wellFormed (sym part) ∙ traced (encoded vram ws) t .entries;
+      same = ap writes (sym part ∙ body vram ws (h .good) (h .few)) ∙ writes-entries ws (h .few) (h .delivered);
+    })
+
+-- and running that part is running those writes: 1 where the lent VRAM has a bad length, else one write after the other
+pub run-again : {vram : ℕ} {ws : List Write} {b : List ℕ} {used : ℕ} → Recorded vram ws b used → (budget : ℕ) (c : Card) (v : List ℕ)
+    → run (checkPart (take used b)) budget c v ≡ cond (badLength (length v)) (nothing 1 c v) (ran ws budget (nothing 0 c v))
+unfolding run
+run-again r budget c v = let h = checked r in rw (h .runnable, h .same)
 
 -- equal writes for equal memory lengths give equal bytes, in whatever buffers and with whatever refusals
 pub equal-bytes : {vram : ℕ} {ws : List Write} {b b′ : List ℕ} {used used′ : ℕ}
