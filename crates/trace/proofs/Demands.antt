@@ -1,12 +1,13 @@
 -- Demands 1 and 2 over traces. What was drawn before a refused entry stays: the picture and the card are those of the entries
--- applied. The held planes keep every bit through any run, from any card and from any reset. Assumes nothing.
+-- applied, and the unread part begins there. The held planes keep every bit through any run, from any card and from any reset.
+-- Assumes nothing.
 use mathlib.Core.Path.{_≡_, refl, ap, sym, _∙_}
 use mathlib.Core.Bool.{Bool, true, false}
-use mathlib.Core.List.{List, _∷_}
+use mathlib.Core.List.{List, [], _∷_}
 use Prim.Native.Nat.{ℕ, suc, _+_, _-_, _*_, _≤_, _<_}
 use native.Mathlib.Nat.{zero-add}
 use native.Mathlib.Omega.{arith}
-use lib.ListN.{length, getD, take, drop}
+use lib.ListN.{length, getD, take, drop, drop-of-length-le}
 use Rattle.raster.specs.Pixel.{bit}
 use Rattle.card.specs.declared.Card.{Card}
 use Rattle.card.specs.declared.Write.{Write}
@@ -100,6 +101,26 @@ nothing-drawn part b c v n h =
       leaves = refl;
     }
 
+-- where a run that passed the checks 10 and 1 stops at s, and what part u it leaves unread
+pub data Stops (part : List ℕ) (b : ℕ) (s : State) (u : List ℕ) : Type 0 where
+  -- at a refused entry, whose number is the answer: u begins at that entry
+  at-refused : {w : Write} {rest : List Write} → writes u ≡ w ∷ rest → s .number ≡ refusal (s .card) w (length (s .picture)) → (s .number ≡ 0 → ⊥) → Stops part b s u
+  -- where the part ends: u is empty
+  at-end : s .number ≡ 0 → u ≡ [] → Stops part b s u
+  -- where the budget ends: u is the rest
+  at-budget : s .number ≡ 0 → s .applied ≡ b → u ≡ drop (12 * b) part → Stops part b s u
+
+-- the part u that the scope paper's run, which ends at s, hands back as unread
+pub record UnreadPart (part : List ℕ) (b : ℕ) (c : Card) (v : List ℕ) (s : State) (u : List ℕ) : Type 0 where
+  -- the part without its first `applied` entries, 12 bytes each; it has so many
+  pub within : 12 * s .applied ≤ length part
+  pub rest : u ≡ drop (12 * s .applied) part
+  -- where check 10 or 1 fails at the start: nothing is drawn, and u is the whole part
+  pub whole-at-10 : wellFormed part ≡ false → (s ≡ nothing 10 c v) × (u ≡ part)
+  pub whole-at-1 : wellFormed part ≡ true → badLength (length v) ≡ true → (s ≡ nothing 1 c v) × (u ≡ part)
+  -- else at a refused entry, the end of the part or that of the budget
+  pub stops : wellFormed part ≡ true → badLength (length v) ≡ false → Stops part b s u
+
 module _ (part : List ℕ) (b : ℕ) (c : Card) (v : List ℕ) where
   drawn : Formed part → Outcome part b c v (ran (writes part) b (nothing 0 c v))
   drawn f =
@@ -136,6 +157,32 @@ module _ (part : List ℕ) (b : ℕ) (c : Card) (v : List ℕ) where
       let far : ran ws b (nothing 0 c v) .applied ≡ k = counts p ∙ zero-add k in
       let whole : k + (entryCount part - k) ≡ entryCount part = omega (arith, runs-within-entries p, length-writes part) in
       rw (run-good part b c v d e, far, left-writes part (formed part d) k (entryCount part - k) whole, ← length-writes part) (ends-so refl p)
+
+  -- what `unread` hands back after a run is the scope paper's unread part, for every part, budget, card and picture
+  pub unread-part : UnreadPart part b c v (run part b c v) (unread part (run part b c v .applied))
+  unfolding unread
+  unread-part =
+      record {
+        within = outcome .within-part;
+        rest = refl;
+        whole-at-10 = λ d. let r = run-malformed part b c v d in (r, all r);
+        whole-at-1 = λ d e. let r = run-bad part b c v d e in (r, all r);
+        stops = λ d e. by-end (formed part d) (ended d e);
+      }
+    where
+      s : State
+      s = run part b c v
+
+      u : List ℕ
+      u = unread part (s .applied)
+
+      all : {n : ℕ} → s ≡ nothing n c v → u ≡ part
+      all e = ap (λ (r : State). drop (12 * r .applied) part) e
+
+      by-end : Formed part → Ended b (entryCount part) (writes u) (s .applied) s → Stops part b s u
+      by-end f (budget-ends z k) = at-budget z k (ap (λ (n : ℕ). drop (12 * n) part) k)
+      by-end f (entries-end z k) = at-end z (drop-of-length-le part {i = 12 * s .applied} (omega (arith, f .whole)))
+      by-end f (refuses l e n) = at-refused l e n
 
   -- demand 2: every bit of a held plane is as it was
   pub held-planes : (i k : ℕ) → i < length v → k < 8 → bit (c .held) k ≡ true → bit (getD (run part b c v .picture) i 0) k ≡ bit (getD v i 0) k
