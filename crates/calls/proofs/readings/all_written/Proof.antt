@@ -1,0 +1,71 @@
+-- `calls::readings::all_written` is safe and ends: a row for each turn. Assumes nothing.
+use Prim.Native.Nat.{_≤_, _-_}
+use native.Mathlib.Omega.{arith}
+use borrow.Author.Needs.{needs}
+use Rattle.calls.proofs.readings.all_written.Statement.{statement}
+use Rattle.calls.proofs.readings.all_written.Tie as tie
+
+abbrev Inv-loop : tie.InvT-loop
+Inv-loop rows card₀ i₀ card i = i ≤ 17
+
+abbrev μ-loop : tie.MeasureT-loop
+μ-loop rows card₀ i₀ card i = 17 - i
+
+reset-requires : tie.Need-reset-requires Inv-loop μ-loop
+reset-requires c κs = search needs
+
+loop-holds : tie.Need-loop-holds Inv-loop μ-loop
+loop-holds c = omega arith
+
+mul-sent : tie.Need-mul-sent Inv-loop μ-loop
+mul-sent c = omega arith
+
+index-1-sent : tie.Need-index-1-sent Inv-loop μ-loop
+index-1-sent c = omega arith
+
+index-2-sent : tie.Need-index-2-sent Inv-loop μ-loop
+index-2-sent c = omega arith
+
+mul-sent-2 : tie.Need-mul-sent-2 Inv-loop μ-loop
+mul-sent-2 c = omega arith
+
+index-1-sent-2 : tie.Need-index-1-sent-2 Inv-loop μ-loop
+index-1-sent-2 c = omega arith
+
+index-2-sent-2 : tie.Need-index-2-sent-2 Inv-loop μ-loop
+index-2-sent-2 c = omega arith
+
+sent-requires : tie.Need-sent-requires Inv-loop μ-loop
+sent-requires c κs = search needs
+
+add-i : tie.Need-add-i Inv-loop μ-loop
+add-i c = omega arith
+
+loop-less : tie.Need-loop-less Inv-loop μ-loop
+loop-less c = omega arith
+
+loop-again : tie.Need-loop-again Inv-loop μ-loop
+loop-again c = omega arith
+
+returns : tie.Need-returns Inv-loop μ-loop
+returns c = omega arith
+
+pub all-written-spec : {M : Type 1} → statement M
+all-written-spec =
+    tie.close
+    (tie.spec
+    Inv-loop
+    μ-loop
+    reset-requires
+    loop-holds
+    mul-sent
+    index-1-sent
+    index-2-sent
+    mul-sent-2
+    index-1-sent-2
+    index-2-sent-2
+    sent-requires
+    add-i
+    loop-less
+    loop-again
+    returns)

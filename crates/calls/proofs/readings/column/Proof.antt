@@ -1,0 +1,71 @@
+-- `calls::readings::column` is safe and ends: a row for each turn. Assumes nothing.
+use Prim.Native.Nat.{_≤_, _-_}
+use native.Mathlib.Omega.{arith}
+use borrow.Author.Needs.{needs}
+use Rattle.calls.proofs.readings.column.Statement.{statement}
+use Rattle.calls.proofs.readings.column.Tie as tie
+
+abbrev Inv-loop : tie.InvT-loop
+Inv-loop card k rows t₀ i₀ t i = i ≤ 17
+
+abbrev μ-loop : tie.MeasureT-loop
+μ-loop card k rows t₀ i₀ t i = 17 - i
+
+loop-holds : tie.Need-loop-holds Inv-loop μ-loop
+loop-holds c = omega arith
+
+mul-reads : tie.Need-mul-reads Inv-loop μ-loop
+mul-reads c = omega arith
+
+index-1-reads : tie.Need-index-1-reads Inv-loop μ-loop
+index-1-reads c = omega arith
+
+index-2-reads : tie.Need-index-2-reads Inv-loop μ-loop
+index-2-reads c = omega arith
+
+mul-reads-2 : tie.Need-mul-reads-2 Inv-loop μ-loop
+mul-reads-2 c = omega arith
+
+mul-reads-3 : tie.Need-mul-reads-3 Inv-loop μ-loop
+mul-reads-3 c = omega arith
+
+index-1-reads-2 : tie.Need-index-1-reads-2 Inv-loop μ-loop
+index-1-reads-2 c = omega arith
+
+index-2-reads-2 : tie.Need-index-2-reads-2 Inv-loop μ-loop
+index-2-reads-2 c = omega arith
+
+reads-requires : tie.Need-reads-requires Inv-loop μ-loop
+reads-requires c κs = search needs
+
+add-i : tie.Need-add-i Inv-loop μ-loop
+add-i c = omega arith
+
+loop-less : tie.Need-loop-less Inv-loop μ-loop
+loop-less c = omega arith
+
+loop-again : tie.Need-loop-again Inv-loop μ-loop
+loop-again c = omega arith
+
+returns : tie.Need-returns Inv-loop μ-loop
+returns c = omega arith
+
+pub column-spec : {M : Type 1} → statement M
+column-spec =
+    tie.close
+    (tie.spec
+    Inv-loop
+    μ-loop
+    loop-holds
+    mul-reads
+    index-1-reads
+    index-2-reads
+    mul-reads-2
+    mul-reads-3
+    index-1-reads-2
+    index-2-reads-2
+    reads-requires
+    add-i
+    loop-less
+    loop-again
+    returns)

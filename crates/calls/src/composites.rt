@@ -1,0 +1,80 @@
+// The composites of the raster operations, beside the scope paper's "How one pixel is made".
+ghost use Prim.Native.Nat.{_≤_};
+use crate::counting::NONE;
+use crate::counting::Tally;
+use crate::counting::with;
+
+// The new bit for source bit s and old bit d: bit (3 - 2s - d) of the operation.
+fn new_bit(op: u8, s: u8, d: u8) -> u8
+    requires { ⌜ (s ≤ 1) × (d ≤ 1) ⌝ }
+    ensures { λ r. ⌜ r ≤ 1 ⌝ }
+{
+    (op >> (3 - 2 * s - d)) % 2
+}
+
+// The bit that b gives for s and for the bit that a gives for s and d.
+fn composed_bit(a: u8, b: u8, s: u8, d: u8) -> u8
+    requires { ⌜ (s ≤ 1) × (d ≤ 1) ⌝ }
+    ensures { λ r. ⌜ r ≤ 1 ⌝ }
+{
+    new_bit(b, s, new_bit(a, s, d))
+}
+
+// The composite of a then b, bit by bit.
+fn composed(a: u8, b: u8) -> u8 {
+    8 * composed_bit(a, b, 0, 0)
+        + 4 * composed_bit(a, b, 0, 1)
+        + 2 * composed_bit(a, b, 1, 0)
+        + composed_bit(a, b, 1, 1)
+}
+
+fn composes(t: Tally, a: u8, b: u8, right: u8) -> Tally {
+    with(t, raster::compose(a, b) == right)
+}
+
+pub fn s9() -> Tally {
+    let t = composes(NONE, 6, 6, 5);
+    let t = composes(t, 3, 6, 0);
+    let t = composes(t, 1, 7, 3);
+    composes(t, 6, 1, 2)
+}
+
+// All sixteen rows of sixteen.
+pub fn by_the_rule() -> Tally {
+    let mut t = NONE;
+    let mut i: u32 = 0;
+    while i < 256 {
+        let a = (i / 16) as u8;
+        let b = (i % 16) as u8;
+        t = composes(t, a, b, composed(a, b));
+        i += 1;
+    }
+    t
+}
+
+// No operation is neutral on either side.
+pub fn with_five() -> Tally {
+    let mut t = NONE;
+    let mut a: u8 = 0;
+    while a < 16 {
+        t = composes(t, a, 5, a);
+        t = composes(t, 5, a, a);
+        a += 1;
+    }
+    t
+}
+
+// Every a, b and c: composing is associative.
+pub fn of_three() -> Tally {
+    let mut t = NONE;
+    let mut i: u32 = 0;
+    while i < 4096 {
+        let a = (i / 256) as u8;
+        let b = (i / 16 % 16) as u8;
+        let c = (i % 16) as u8;
+        let left = raster::compose(raster::compose(a, b), c);
+        t = composes(t, a, raster::compose(b, c), left);
+        i += 1;
+    }
+    t
+}
