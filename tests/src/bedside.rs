@@ -1,8 +1,9 @@
 //! The sample trace: the bedside screen of the demonstration program, 256 by 256 pixels, with the caliper left on.
 //! One card draws it from reset, so plane masks stand for the planes that the demonstration's two cards hold.
 
+use crate::listed::mode;
+use crate::model::trace::{self, ENTRY, HEADER, MOST_ENTRIES};
 use crate::model::{self, Write, FRAME, REGISTER};
-use crate::trace::{self, ENTRY, HEADER, MOST_ENTRIES};
 use std::fs;
 
 const WIDTH: u32 = 256;
@@ -164,7 +165,7 @@ fn caliper(to: &mut Recorder) {
 /// The bytes of the sample trace.
 fn trace_bytes() -> Result<Vec<u8>, String> {
     let mut to = Recorder::new();
-    to.register(MODE, model::mode::OPAQUE_FILL);
+    to.register(MODE, mode::OPAQUE_FILL);
     to.register(FILL_MASK, 0xFFFF_FFFF);
     border(&mut to);
     screen(&mut to);

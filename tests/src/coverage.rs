@@ -1,7 +1,7 @@
 //! Counts what writes reached: by mode or register and number, and in some situations.
 
-use crate::generate::OFFSETS;
-use crate::model::mode::{self, MODES};
+use crate::listed::mode::{self, MODES};
+use crate::listed::OFFSETS;
 use crate::model::{Card, Write, FRAME, REGISTER};
 
 const OTHER_MODE: usize = MODES.len();

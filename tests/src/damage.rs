@@ -1,8 +1,8 @@
 //! Traces whole and damaged.
 
 use crate::generate::Maker;
+use crate::model::trace::{self, ENTRY, HEADER};
 use crate::model::{self, refusal, Write};
-use crate::trace::{self, ENTRY, HEADER};
 
 /// Writes for a trace from reset, made on a model card as it goes; few are refused, so that runs are long.
 pub fn writes(maker: &mut Maker, length: usize, entries: usize) -> Vec<Write> {

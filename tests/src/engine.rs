@@ -1,8 +1,7 @@
 //! Safe wrappers over the C interface of the engine's static library. They take and give the model's types, so that both sides
 //! can be compared whole.
 
-use crate::model::{self, Write};
-use crate::trace;
+use crate::model::{self, trace, Write};
 
 /// The three last but one are `bool` in the interface; as bytes, a value other than 0 or 1 is seen and not trusted.
 #[repr(C)]

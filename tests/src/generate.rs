@@ -1,7 +1,7 @@
 //! Cards and writes that reach every mode, register, refusal and boundary.
 
-use crate::model::mode::{self, MODES};
-use crate::model::refusal::LARGEST_VRAM;
+use crate::listed::mode::{self, MODES};
+use crate::listed::{LARGEST_VRAM, OFFSETS};
 use crate::model::{Card, Write, FRAME, REGISTER};
 use crate::random::Random;
 
@@ -10,12 +10,6 @@ pub struct Maker {
     pub random: Random,
     last: u64,
 }
-
-/// Every listed offset.
-pub const OFFSETS: [u32; 19] = [
-    0x0020, 0x0024, 0x0028, 0x002C, 0x0030, 0x0034, 0x0038, 0x005C, 0x0080, 0x0140, 0x0144, 0x0148,
-    0x014C, 0x0150, 0x0154, 0x0158, 0x015C, 0x0160, 0x0164,
-];
 
 /// Codes near the listed ones, among them those of the manual and of Linux.
 const UNLISTED_CODES: [u32; 12] = [
@@ -39,8 +33,8 @@ impl Maker {
             0 => (0, true),
             1 => (63, true),
             2 => (self.random.below(4096) as usize, true),
-            3 => (LARGEST_VRAM as usize, true),
-            4 if self.random.one_in(2) => (LARGEST_VRAM as usize + 64, true),
+            3 => (LARGEST_VRAM, true),
+            4 if self.random.one_in(2) => (LARGEST_VRAM + 64, true),
             5..=19 => (64, false),
             20..=34 => (128, false),
             35..=49 => (2048, false),

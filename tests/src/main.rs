@@ -16,12 +16,12 @@ mod damage;
 mod engine;
 mod fast;
 mod generate;
+mod listed;
 mod model;
 mod random;
 mod recorded;
 mod samples;
 mod tables;
-mod trace;
 
 use std::env;
 use std::process::ExitCode;
@@ -55,7 +55,7 @@ fn check_model() -> Result<(), String> {
     );
     println!(
         "recorded traces on the model, every byte: {}",
-        recorded::check_all(trace::run)?
+        recorded::check_all(model::trace::run)?
     );
     println!(
         "entries of the sample trace on the model: {}",

@@ -1,7 +1,7 @@
 //! The recorded traces under cases/, with what each must answer.
 
+use crate::model::trace::{self, Ran};
 use crate::model::{self, Card};
-use crate::trace::{self, Ran};
 use std::fs;
 
 /// Name, number and entries applied.

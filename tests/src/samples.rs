@@ -1,7 +1,6 @@
 //! "Samples": S1 to S12 and the two sizes to be run as tests, with the values that the scope paper gives.
 
-use crate::model::{self, pixel, Card, Write};
-use crate::trace;
+use crate::model::{self, pixel, trace, Card, Write};
 
 /// A write with the number it must answer and, where the paper says it, its count.
 struct Step(u8, u8, u32, u32, u32, Option<u32>);

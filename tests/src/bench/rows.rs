@@ -1,6 +1,6 @@
 //! What is measured: for each row a card, and writes on it that are all accepted.
 
-use crate::model::mode::{self, MODES};
+use crate::listed::mode::{self, MODES};
 use crate::model::{self, Card, Write, FRAME, REGISTER};
 use crate::random::Random;
 

@@ -4,14 +4,12 @@ use super::{all_reached, writes, Other, WRITE_CASES};
 use crate::coverage::Coverage;
 use crate::fast;
 use crate::generate::Maker;
-use crate::model;
 use crate::random::Random;
 
 const SEED: u64 = 1;
 
-/// The plain implementation has no reset of its own.
 const PLAIN: Other = Other {
-    reset: |_, held| model::reset(held),
+    reset: |_, held| fast::reset(held),
     write: fast::write,
 };
 

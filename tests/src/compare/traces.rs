@@ -6,8 +6,8 @@ use super::{fresh_card, picture, same, Outcome, Pair};
 use crate::damage;
 use crate::engine;
 use crate::generate::Maker;
+use crate::model::trace::{self, ENTRY, HEADER};
 use crate::model::{Card, Write};
-use crate::trace::{self, ENTRY, HEADER};
 
 /// One trace: written entry by entry, checked whole and damaged, and run in pieces.
 pub fn case(maker: &mut Maker, calls: &mut Calls) -> Outcome {

@@ -1,14 +1,20 @@
 //! A plain implementation of the scope paper, written for speed in safe Rust, as the measure beside the engine in `bench`.
-//! It uses the model's card and writes, and shares none of its rules; `model` checks that both give the same.
+//! It uses the model's types of a card and a write, and shares none of its rules and tables; `model` checks that both give the
+//! same.
 
 mod draw;
 mod words;
 
-use crate::model::mode::{
-    BLOCK_FILL, BLOCK_STIPPLE, COPY, OPAQUE_FILL, OPAQUE_STIPPLE, SIMPLE, TRANSPARENT_FILL,
-    TRANSPARENT_STIPPLE,
-};
 use crate::model::{Card, Write};
+
+const SIMPLE: u32 = 0x00;
+const OPAQUE_STIPPLE: u32 = 0x01;
+const TRANSPARENT_STIPPLE: u32 = 0x05;
+const COPY: u32 = 0x07;
+const BLOCK_STIPPLE: u32 = 0x0D;
+const OPAQUE_FILL: u32 = 0x21;
+const BLOCK_FILL: u32 = 0x2D;
+const TRANSPARENT_FILL: u32 = 0x45;
 
 /// The pixels enabled, or the number of the refusal.
 type Answer = Result<u32, u32>;
@@ -25,6 +31,24 @@ const LISTED: u128 = 1 << SIMPLE
 
 fn is_listed(mode: u32) -> bool {
     mode < 128 && LISTED >> mode & 1 == 1
+}
+
+pub fn reset(held: u8) -> Card {
+    Card {
+        foreground: 0,
+        background: 0,
+        plane: u32::MAX,
+        pixel: u32::MAX,
+        mode: SIMPLE,
+        raster: 3,
+        data: 0,
+        block: [0; 8],
+        buffer: [0; 64],
+        marked: false,
+        loaded: false,
+        writing: false,
+        held,
+    }
 }
 
 /// One write: its number and pixel count. It is not inlined, as the engine's can't be.

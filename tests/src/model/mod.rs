@@ -7,6 +7,7 @@ pub mod mode;
 pub mod pixel;
 pub mod refusal;
 pub mod register;
+pub mod trace;
 
 pub use card::{reset, Card};
 pub use register::read_register;

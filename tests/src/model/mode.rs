@@ -11,21 +11,19 @@ pub const BLOCK_STIPPLE: u32 = 0x0D;
 pub const BLOCK_FILL: u32 = 0x2D;
 pub const COPY: u32 = 0x07;
 
-/// Every mode with its name.
-pub const MODES: [(u32, &str); 8] = [
-    (SIMPLE, "simple"),
-    (OPAQUE_STIPPLE, "opaque stipple"),
-    (TRANSPARENT_STIPPLE, "transparent stipple"),
-    (OPAQUE_FILL, "opaque fill"),
-    (TRANSPARENT_FILL, "transparent fill"),
-    (BLOCK_STIPPLE, "block stipple"),
-    (BLOCK_FILL, "block fill"),
-    (COPY, "copy"),
-];
-
 /// Number 5: the register as a whole must be one of the codes, so bits 31:7 are clear in every good value.
 pub fn is_listed(value: u32) -> bool {
-    MODES.iter().any(|&(code, _)| code == value)
+    matches!(
+        value,
+        SIMPLE
+            | OPAQUE_STIPPLE
+            | TRANSPARENT_STIPPLE
+            | OPAQUE_FILL
+            | TRANSPARENT_FILL
+            | BLOCK_STIPPLE
+            | BLOCK_FILL
+            | COPY
+    )
 }
 
 pub fn is_fill(mode: u32) -> bool {

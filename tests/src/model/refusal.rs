@@ -4,7 +4,7 @@ use super::mode::{self, Span};
 use super::register::{self, Register};
 use super::{Card, Write, FRAME, REGISTER};
 
-pub const LARGEST_VRAM: u64 = 2_097_152;
+const LARGEST_VRAM: u64 = 2_097_152;
 
 /// Number 1.
 pub fn bad_length(length: u64) -> bool {

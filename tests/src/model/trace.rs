@@ -1,7 +1,7 @@
 //! "Traces": starting, appending, checking and running them, as the scope paper says.
 
-use crate::model::refusal::{bad_form, bad_length};
-use crate::model::{self, Card, Write};
+use super::refusal::{bad_form, bad_length};
+use super::{Card, Write};
 
 pub const HEADER: usize = 16;
 pub const ENTRY: usize = 12;
@@ -132,7 +132,7 @@ pub fn run(part: &[u8], card: &mut Card, vram: &mut [u8], budget: u32) -> Ran {
         return ran;
     }
     while ran.entries < budget && (ran.rest as usize) < part.len() {
-        let (number, count) = model::write(card, vram, entry(part, ran.rest as usize));
+        let (number, count) = super::write(card, vram, entry(part, ran.rest as usize));
         if number != 0 {
             ran.number = number;
             return ran;
