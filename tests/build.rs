@@ -1,15 +1,20 @@
-//! Links the engine's static library `host`, only with the feature `engine`.
+//! Links the engine's static library with the feature `engine`, and that of another commit with the feature `other`.
 
 use std::env;
 
 fn main() {
-    println!("cargo:rerun-if-env-changed=ZEVKHOLTAI_LIB");
-    if env::var_os("CARGO_FEATURE_ENGINE").is_none() {
+    link("CARGO_FEATURE_ENGINE", "ZEVKHOLTAI_LIB", "host");
+    link("CARGO_FEATURE_OTHER", "ZEVKHOLTAI_OTHER", "other");
+}
+
+fn link(feature: &str, variable: &str, library: &str) {
+    println!("cargo:rerun-if-env-changed={variable}");
+    if env::var_os(feature).is_none() {
         return;
     }
-    let folder = env::var("ZEVKHOLTAI_LIB")
-        .expect("ZEVKHOLTAI_LIB must name the folder that holds the engine's static library");
-    println!("cargo:rerun-if-changed={folder}/libhost.a");
+    let folder = env::var(variable)
+        .unwrap_or_else(|_| panic!("{variable} must name the folder that holds lib{library}.a"));
+    println!("cargo:rerun-if-changed={folder}/lib{library}.a");
     println!("cargo:rustc-link-search=native={folder}");
-    println!("cargo:rustc-link-lib=static=host");
+    println!("cargo:rustc-link-lib=static={library}");
 }

@@ -3,7 +3,8 @@
 //! `sample FILE`: writes the sample trace.
 //! `compare [SEED [FIRST [LAST]]]`: the model against the engine (feature `engine`), on numbered random cases: all of them, the
 //! one case FIRST, or those from FIRST to LAST.
-//! `bench`: the engine's speed (feature `engine`) beside the plain implementation's.
+//! `bench`: the engine's speed (feature `engine`) beside the plain implementation's and, with the feature `other`, beside that of
+//! another commit's library.
 
 mod bedside;
 #[cfg(feature = "engine")]

@@ -1,7 +1,7 @@
-//! What is measured: for each row a card, and writes on it that are all accepted.
+//! What is measured: for each row writes on a card, all of them accepted.
 
 use crate::listed::mode::{self, MODES};
-use crate::model::{self, Card, Write, FRAME, REGISTER};
+use crate::model::{Write, FRAME, REGISTER};
 use crate::random::Random;
 
 /// The VRAM of the demonstration program.
@@ -12,7 +12,8 @@ pub const TURNS: usize = 1_000;
 
 pub struct Row {
     pub name: String,
-    pub card: Card,
+    /// Register writes, on a card at reset, that set what the row needs.
+    pub setting: Vec<Write>,
     pub writes: Vec<Write>,
     /// The pixels that a turn covers, masked or not, from each of these places on; none for a register write.
     pub pixels: usize,
@@ -22,37 +23,27 @@ pub struct Row {
 /// Every row with this raster operation and plane mask.
 pub fn rows(raster: u32, plane: u32) -> Vec<Row> {
     let mut random = Random::of_case(1, 0);
-    let card = Card {
-        foreground: random.word(),
-        background: random.word(),
-        plane,
-        raster,
-        data: random.word(),
-        block: std::array::from_fn(|_| random.word()),
-        ..model::reset(0)
-    };
+    let mut setting = vec![
+        register_write(0x0020, random.word()),
+        register_write(0x0024, random.word()),
+        register_write(0x0028, plane),
+        register_write(0x0034, raster),
+        register_write(0x0080, random.word()),
+    ];
+    setting.extend((0..8).map(|i| register_write(0x0140 + 4 * i, random.word())));
     let mut rows: Vec<Row> = MODES
         .iter()
-        .map(|&(mode, name)| {
-            frame_row(
-                &mut random,
-                &Card {
-                    mode,
-                    ..card.clone()
-                },
-                name,
-            )
-        })
+        .map(|&(mode, name)| frame_row(&mut random, &setting, mode, name))
         .collect();
-    rows.push(copy64_row(&mut random, &card));
-    rows.push(register_row(&mut random, &card));
+    rows.push(copy64_row(&mut random, &setting));
+    rows.push(register_row(&mut random, &setting));
     rows
 }
 
-fn empty_row(card: &Card, name: String, pixels: usize) -> Row {
+fn empty_row(setting: &[Write], name: String, pixels: usize) -> Row {
     Row {
         name,
-        card: card.clone(),
+        setting: setting.to_vec(),
         writes: Vec::new(),
         pixels,
         places: Vec::new(),
@@ -65,20 +56,21 @@ fn address(random: &mut Random, boundary: usize, pixels: usize) -> u32 {
     (random.below(last as u64 + 1) as usize * boundary) as u32
 }
 
-fn frame_row(random: &mut Random, card: &Card, name: &str) -> Row {
-    let fill = mode::is_fill(card.mode);
-    let copy = card.mode == mode::COPY;
-    let (name, pixels, boundary) = match card.mode {
+fn frame_row(random: &mut Random, setting: &[Write], mode: u32, name: &str) -> Row {
+    let fill = mode::is_fill(mode);
+    let copy = mode == mode::COPY;
+    let (name, pixels, boundary) = match mode {
         mode::SIMPLE => (String::from(name), 4, 4),
         mode::COPY => (format!("{name}, both writes"), 32, 8),
         _ if fill => (format!("{name} of 2,048"), 2048, 4),
         _ => (String::from(name), 32, 4),
     };
-    let mut row = empty_row(card, name, pixels);
+    let mut row = empty_row(setting, name, pixels);
+    row.setting.push(register_write(0x0030, mode));
     for _ in 0..TURNS {
         // A fill starts at any pixel; the bits of a stipple are random, a copy takes all its pixels.
         let low = if fill { random.below(4) as u32 } else { 0 };
-        let data = match card.mode {
+        let data = match mode {
             mode::COPY => 0xFFFF_FFFF,
             _ if fill => low << 16 | (pixels as u32 - 1),
             _ => random.word(),
@@ -112,8 +104,8 @@ fn register_write(offset: u32, data: u32) -> Write {
     }
 }
 
-fn copy64_row(random: &mut Random, card: &Card) -> Row {
-    let mut row = empty_row(card, String::from("64-byte copy, both writes"), 64);
+fn copy64_row(random: &mut Random, setting: &[Write]) -> Row {
+    let mut row = empty_row(setting, String::from("64-byte copy, both writes"), 64);
     for _ in 0..TURNS {
         let source = address(random, 64, 64);
         let destination = address(random, 64, 64);
@@ -124,8 +116,8 @@ fn copy64_row(random: &mut Random, card: &Card) -> Row {
     row
 }
 
-fn register_row(random: &mut Random, card: &Card) -> Row {
-    let mut row = empty_row(card, String::from("register write"), 0);
+fn register_row(random: &mut Random, setting: &[Write]) -> Row {
+    let mut row = empty_row(setting, String::from("register write"), 0);
     row.writes = (0..TURNS)
         .map(|_| register_write(0x0020, random.word()))
         .collect();

@@ -1,115 +1,108 @@
-//! Times of a row: the engine, the plain implementation, memset and memcpy take turns, five rounds of them.
+//! Times of a row: the engine, the other library, the plain implementation, memset and memcpy take turns.
 
+use super::library::{self, OTHER, THIS};
 use super::rows::{Row, TURNS, VRAM};
-use crate::engine::Kept;
+use super::side::Side;
 use crate::fast;
-use crate::model::{Card, Write};
 use crate::random::Random;
 use std::hint::black_box;
-use std::time::{Duration, Instant};
 
-const ROUNDS: usize = 5;
-/// Five rounds make 0.3 seconds for each number.
-const ROUND: Duration = Duration::from_millis(60);
+/// Rounds are many and short, so that what else the machine does falls on all alike.
+pub const ROUNDS: usize = 25;
+const SECONDS_A_ROUND: f64 = 0.012;
 
-/// Seconds that a turn takes; memset and memcpy only where there are pixels.
-pub struct Times {
-    pub engine: f64,
-    pub plain: f64,
-    pub set: Option<f64>,
-    pub copied: Option<f64>,
+#[derive(Clone, Copy)]
+pub enum Timed {
+    Engine,
+    Other,
+    Plain,
+    Set,
+    Copied,
 }
 
-/// A card, as one side keeps it, and its picture.
-struct Side<T> {
-    card: T,
-    vram: Vec<u8>,
-}
+/// Seconds that a turn took in each round: none for the other library where there is no other, or for memset and memcpy where
+/// no pixels are.
+pub struct Times([[Option<f64>; 5]; ROUNDS]);
 
-impl Side<Kept> {
-    fn pass(&mut self, writes: &[Write]) -> (u32, u32) {
-        pass(writes, |w| self.card.write(&mut self.vram, w))
+impl Times {
+    pub fn median(&self, timed: Timed) -> Option<f64> {
+        median(self.0.map(|round| round[timed as usize]))
     }
-}
 
-impl Side<Card> {
-    fn pass(&mut self, writes: &[Write]) -> (u32, u32) {
-        pass(writes, |w| fast::write(&mut self.card, &mut self.vram, w))
+    /// The median of every round's ratio.
+    pub fn ratio(&self, timed: Timed, over: Timed) -> Option<f64> {
+        median(
+            self.0
+                .map(|round| Some(round[timed as usize]? / round[over as usize]?)),
+        )
     }
-}
-
-/// Makes every write; gives 0 if all were accepted, and the pixels of all.
-fn pass(writes: &[Write], mut write: impl FnMut(Write) -> (u32, u32)) -> (u32, u32) {
-    let mut refused = 0;
-    let mut pixels = 0;
-    for &w in black_box(writes) {
-        let (number, count) = write(w);
-        refused |= number;
-        pixels += count;
-    }
-    (refused, pixels)
 }
 
 pub fn measure(row: &Row) -> Result<Times, String> {
     let picture = Random::of_case(1, 1).bytes(VRAM);
-    let mut engine = Side {
-        card: Kept::new(&row.card),
-        vram: picture.clone(),
-    };
-    let mut plain = Side {
-        card: row.card.clone(),
-        vram: picture.clone(),
-    };
     let mut memory = picture.clone();
-    same_work(row, &mut engine, &mut plain)?;
-    let rounds: [[f64; 4]; ROUNDS] = std::array::from_fn(|_| {
-        [
-            timed(|| engine.pass(&row.writes)),
-            timed(|| plain.pass(&row.writes)),
-            timed(|| set(row, &mut memory)),
-            timed(|| copy(row, &mut memory, &picture)),
-        ]
-    });
-    let median_of = |side: usize| median(rounds.map(|round| round[side]));
-    let has_pixels = row.pixels > 0;
-    Ok(Times {
-        engine: median_of(0),
-        plain: median_of(1),
-        set: has_pixels.then(|| median_of(2)),
-        copied: has_pixels.then(|| median_of(3)),
-    })
-}
-
-/// One pass on both sides first: they must do the same work, and all of it.
-fn same_work(row: &Row, engine: &mut Side<Kept>, plain: &mut Side<Card>) -> Result<(), String> {
-    let answer = engine.pass(&row.writes);
-    let same = answer == plain.pass(&row.writes)
-        && engine.card.card() == plain.card
-        && engine.vram == plain.vram;
-    match (answer.0, same) {
-        (0, true) => Ok(()),
-        (0, false) => Err(format!("{}: the two sides differ", row.name)),
-        _ => Err(format!("{}: a write is refused", row.name)),
+    let mut engine = Side::new(library::card(THIS), &picture);
+    let mut other = OTHER.map(|other| Side::new(library::card(other), &picture));
+    let mut card = fast::reset(0);
+    let mut plain = Side::new(|vram, write| fast::write(&mut card, vram, write), &picture);
+    let pixels = plain.first_pass(row)?;
+    engine.same_work(row, pixels, &plain.vram)?;
+    if let Some(other) = &mut other {
+        other.same_work(row, pixels, &plain.vram)?;
     }
+    let drawn = row.pixels > 0;
+    Ok(Times(std::array::from_fn(|_| {
+        // In the order of `Timed`.
+        [
+            Some(timed(|| engine.pass(&row.writes))),
+            other
+                .as_mut()
+                .map(|other| timed(|| other.pass(&row.writes))),
+            Some(timed(|| plain.pass(&row.writes))),
+            drawn.then(|| timed(|| set(row, &mut memory))),
+            drawn.then(|| timed(|| copy(row, &mut memory, &picture))),
+        ]
+    })))
 }
 
 /// Seconds for each turn, over as many passes as fill a round.
 fn timed<T>(mut pass: impl FnMut() -> T) -> f64 {
-    let start = Instant::now();
+    let start = processor_time();
     let mut turns = 0;
     loop {
         black_box(pass());
         turns += TURNS;
-        let elapsed = start.elapsed();
-        if elapsed >= ROUND {
-            return elapsed.as_secs_f64() / turns as f64;
+        let elapsed = processor_time() - start;
+        if elapsed >= SECONDS_A_ROUND {
+            return elapsed / turns as f64;
         }
     }
 }
 
-fn median(mut times: [f64; ROUNDS]) -> f64 {
+/// The processor's seconds on this thread: other work on the machine does not count.
+fn processor_time() -> f64 {
+    #[repr(C)]
+    struct Time {
+        seconds: i64,
+        nanoseconds: i64,
+    }
+    extern "C" {
+        fn clock_gettime(clock: i32, time: *mut Time) -> i32;
+    }
+    const LINUX_THREAD_CLOCK: i32 = 3;
+    let mut time = Time {
+        seconds: 0,
+        nanoseconds: 0,
+    };
+    let status = unsafe { clock_gettime(LINUX_THREAD_CLOCK, &mut time) };
+    assert_eq!(status, 0, "no clock of the processor's time");
+    time.seconds as f64 + time.nanoseconds as f64 / 1e9
+}
+
+fn median(times: [Option<f64>; ROUNDS]) -> Option<f64> {
+    let mut times: Vec<f64> = times.into_iter().collect::<Option<_>>()?;
     times.sort_by(f64::total_cmp);
-    times[ROUNDS / 2]
+    Some(times[ROUNDS / 2])
 }
 
 /// The compiler doesn't see the length, so every turn calls memset.

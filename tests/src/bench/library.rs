@@ -1,0 +1,54 @@
+//! The libraries that are measured: this tree's and, with the feature `other`, another commit's. A card may be laid out
+//! differently in each, so it is a block of memory here, which only its own library reads and changes.
+
+use crate::engine::entries::{self, WriteEntry};
+use crate::model::Write;
+use std::ffi::c_void;
+use std::ptr::from_mut;
+
+#[derive(Clone, Copy)]
+pub struct Library {
+    reset: unsafe extern "C" fn(card: *mut c_void, held: u8),
+    write: WriteEntry,
+}
+
+pub const THIS: Library = Library {
+    reset: entries::zevkholtai_reset,
+    write: entries::zevkholtai_write,
+};
+
+#[cfg(not(feature = "other"))]
+pub const OTHER: Option<Library> = None;
+
+#[cfg(feature = "other")]
+pub const OTHER: Option<Library> = Some(Library {
+    reset: other_zevkholtai_reset,
+    write: other_zevkholtai_write,
+});
+
+#[cfg(feature = "other")]
+extern "C" {
+    fn other_zevkholtai_reset(card: *mut c_void, held: u8);
+    fn other_zevkholtai_write(
+        card: *mut c_void,
+        space: u8,
+        lanes: u8,
+        address: u32,
+        data: u32,
+        vram: *mut u8,
+        length: usize,
+    ) -> entries::Answer;
+}
+
+/// Room for a card of any layout; on whole cache lines, so that no side has a better place than another.
+#[repr(align(64))]
+struct Block([u8; 256]);
+
+/// What makes writes on a card of the library's that starts at reset.
+pub fn card(library: Library) -> impl FnMut(&mut [u8], Write) -> (u32, u32) {
+    let mut block = Block([0; 256]);
+    unsafe { (library.reset)(from_mut(&mut block.0).cast(), 0) };
+    move |vram, write| unsafe {
+        entries::write(library.write, from_mut(&mut block.0).cast(), vram, write)
+    }
+}

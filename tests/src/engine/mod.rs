@@ -1,0 +1,70 @@
+//! Safe wrappers over the C interface of the engine's static library. They take and give the model's types, so that both sides
+//! can be compared whole.
+
+mod card;
+pub mod entries;
+
+use crate::model::{self, trace, Write};
+use card::Card;
+use std::ptr::from_mut;
+
+/// The card that reset leaves, whatever card stood there before.
+pub fn reset(before: &model::Card, held: u8) -> model::Card {
+    let mut card = Card::from(before);
+    unsafe { entries::zevkholtai_reset(from_mut(&mut card).cast(), held) };
+    model::Card::from(&card)
+}
+
+pub fn write(card: &mut model::Card, vram: &mut [u8], write: Write) -> (u32, u32) {
+    let mut lent = Card::from(&*card);
+    let place = from_mut(&mut lent).cast();
+    let answer = unsafe { entries::write(entries::zevkholtai_write, place, vram, write) };
+    *card = model::Card::from(&lent);
+    answer
+}
+
+pub fn start(buffer: &mut [u8], length: u32) -> (u32, u32) {
+    let checked = unsafe { entries::zevkholtai_start(buffer.as_mut_ptr(), buffer.len(), length) };
+    (checked.number, checked.length)
+}
+
+pub fn append(buffer: &mut [u8], used: usize, write: Write) -> (u32, u32) {
+    let checked = unsafe {
+        entries::zevkholtai_append(
+            buffer.as_mut_ptr(),
+            buffer.len(),
+            used,
+            write.space,
+            write.lanes,
+            write.address,
+            write.data,
+        )
+    };
+    (checked.number, checked.length)
+}
+
+pub fn check(bytes: &[u8]) -> (u32, u32) {
+    let checked = unsafe { entries::zevkholtai_check(bytes.as_ptr(), bytes.len()) };
+    (checked.number, checked.length)
+}
+
+pub fn run(part: &[u8], card: &mut model::Card, vram: &mut [u8], budget: u32) -> trace::Ran {
+    let mut lent = Card::from(&*card);
+    let ran = unsafe {
+        entries::zevkholtai_run(
+            from_mut(&mut lent).cast(),
+            part.as_ptr(),
+            part.len(),
+            vram.as_mut_ptr(),
+            vram.len(),
+            budget,
+        )
+    };
+    *card = model::Card::from(&lent);
+    trace::Ran {
+        number: ran.number,
+        entries: ran.entries,
+        pixels: ran.pixels,
+        rest: ran.rest,
+    }
+}
