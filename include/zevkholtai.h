@@ -18,6 +18,11 @@
  *    9  a 64-byte destination write with no 64-byte source loaded
  *   10  trace bytes malformed
  *   11  no room for a trace entry or header
+ *
+ * Made twice, a list of writes leaves every picture as it was, and gives the same numbers and counts both times, on two
+ * conditions. Every write that draws does so under raster operation 5, 6, 9 or 10 and obeys it (is no frame write in a
+ * block mode), and none reads pixels into the copy buffer. Both times start from the same card: save it before the first
+ * and put it back before the second, so that, say, a one-shot pixel mask is set again. See examples/host.c.
  */
 #ifndef ZEVKHOLTAI_H
 #define ZEVKHOLTAI_H
