@@ -1,15 +1,16 @@
-//! The engine against the model: the recorded traces, then numbered cases of writes and of traces.
+//! The engine against the model: the recorded traces, then numbered cases of writes, of traces and of calipers.
 
 use super::calls::Calls;
-use super::{all_reached, traces, writes, Other, Outcome, WRITE_CASES};
+use super::{all_reached, caliper, traces, writes, Other, Outcome, WRITE_CASES};
 use crate::coverage::Coverage;
 use crate::engine;
 use crate::generate::Maker;
 use crate::random::Random;
 use crate::recorded;
 
-/// Cases from `WRITE_CASES` on are traces.
-pub const CASES: u64 = WRITE_CASES + 4_000;
+/// Cases from `WRITE_CASES` on are traces, and from this number on calipers.
+const FIRST_CALIPER: u64 = WRITE_CASES + 4_000;
+pub const CASES: u64 = FIRST_CALIPER + 1_000;
 
 pub(super) const ENGINE: Other = Other {
     reset: engine::reset,
@@ -23,12 +24,15 @@ pub fn compare(seed: u64, first: u64, last: u64) -> Outcome {
     println!("seed {seed}, cases {first} to {last}");
     let mut coverage = Coverage::new();
     let mut calls = Calls::new();
+    let mut shown = 0;
     for case in first..=last {
         let mut maker = Maker::new(Random::of_case(seed, case));
         let outcome = if case < WRITE_CASES {
             writes::case(&ENGINE, &mut maker, &mut coverage)
-        } else {
+        } else if case < FIRST_CALIPER {
             traces::case(&mut maker, &mut calls)
+        } else {
+            caliper::case(&mut maker).map(|shows| shown += u64::from(shows))
         };
         outcome.map_err(|why| {
             format!(
@@ -38,9 +42,13 @@ pub fn compare(seed: u64, first: u64, last: u64) -> Outcome {
     }
     coverage.print();
     calls.print();
+    println!("calipers drawn, and taken off again: {shown}");
     println!("no difference");
     if first == 0 && last + 1 == CASES {
-        let missing = [coverage.missing(), calls.missing()].concat();
+        let mut missing = [coverage.missing(), calls.missing()].concat();
+        if shown == 0 {
+            missing.push(String::from("a caliper that shows"));
+        }
         return all_reached(&missing).map_err(|why| format!("seed {seed}: {why}"));
     }
     Ok(())

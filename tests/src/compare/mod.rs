@@ -1,6 +1,8 @@
 //! Makes the same calls on the model and on another, and compares everything that comes back.
 
 #[cfg(feature = "engine")]
+mod caliper;
+#[cfg(feature = "engine")]
 mod calls;
 #[cfg(feature = "engine")]
 pub mod engine;
