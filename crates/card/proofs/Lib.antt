@@ -1,2 +1,2 @@
 -- The laws of the card's registers.
-pub mod Lookup
+pub mod Readings

@@ -1,5 +1,4 @@
 -- Scope paper, "Registers", the column "At reset" and the paragraph on reset.
-use mathlib.Core.Bool.{false}
 use Prim.Native.Nat.{ℕ}
 use lib.ListN.{replicate}
 use Rattle.card.specs.declared.Card.{Card}
@@ -10,17 +9,16 @@ use Rattle.card.specs.Registers.{rowAt}
 unfoldable pub resetCard : ℕ → Card
 resetCard h =
     record {
-      foreground = rowAt 0x0020 .reset;
-      background = rowAt 0x0024 .reset;
-      plane = rowAt 0x0028 .reset;
-      pixel = rowAt 0x005C .reset;
-      mode = rowAt 0x0030 .reset;
-      raster = rowAt 0x0034 .reset;
-      fill = rowAt 0x0080 .reset;
-      block = replicate 8 (rowAt 0x0140 .reset);
-      buffer = replicate 64 0;
-      marked = false;
-      loaded = false;
-      writing = false;
+      registers = record {
+        foreground = rowAt 0x0020 .reset;
+        background = rowAt 0x0024 .reset;
+        plane = rowAt 0x0028 .reset;
+        mode = rowAt 0x0030 .reset;
+        raster = rowAt 0x0034 .reset;
+        fill = rowAt 0x0080 .reset;
+        block = replicate 8 (rowAt 0x0140 .reset);
+      };
+      mask = record { bits = rowAt 0x005C .reset; marked = 0 };
+      copier = record { buffer = replicate 64 0; loaded = 0; writing = 0 };
       held = h;
     }

@@ -1,8 +1,10 @@
 // The card's state, its registers, and the writes that it is sent.
 // What each function means stands in specs/, under the headings of the scope paper.
 ghost use mathlib.Core.Path.{_≡_};
-ghost use Rattle.card.specs.Registers.{rowAt, code, holds, reading, stores};
+ghost use Rattle.card.specs.Registers.{holds, reading, stores};
 ghost use Rattle.card.specs.Reset.{resetCard};
+
+pub mod table;
 
 // What a register offset names. The lasting and the one-shot pixel mask are one value at two offsets.
 pub enum Register {
@@ -21,36 +23,47 @@ pub enum Register {
     Missing,
 }
 
-// A row of the register table. `kept` is the mask of the bits that a write keeps.
-pub struct Row {
-    pub offset: u32,
-    pub register: Register,
-    pub kept: u32,
-    pub reset: u32,
-    pub readable: bool,
-}
-
-// The whole state. Pixel shift can only hold 0, so it has no field.
+// The registers that hold a number of their own. Pixel shift can only hold 0, so it has no field.
 #[repr(C)]
-pub struct Card {
+pub struct Registers {
     pub foreground: u32,
     pub background: u32,
     pub plane: u32,
-    pub pixel: u32,
     pub mode: u32,
     pub raster: u32,
     pub fill: u32,
     pub block: [u32; 8],
-    pub buffer: [u8; 64],
-    // the pixel mask is one-shot
-    pub marked: bool,
-    // the copy buffer holds a 64-byte source
-    pub loaded: bool,
-    // the copy direction: the next copy write draws its destination
-    pub writing: bool,
-    // the held planes, which no write can change
-    pub held: u8,
 }
+
+// The pixel mask, and whether it is one-shot.
+#[repr(C)]
+pub struct Mask {
+    pub bits: u32,
+    pub marked: u32,
+}
+
+// The copy buffer, whether it holds a 64-byte source, and the copy direction: whether the next copy write draws its destination.
+#[repr(C)]
+pub struct Copier {
+    pub buffer: [u8; 64],
+    pub loaded: u32,
+    pub writing: u32,
+}
+
+// The whole state, in parts. Every field is a word or an array of whole words, so no byte of it is padding and every pattern of bytes
+// is a card; a mark is set where its word is not 0. No write can change the held planes, bits 7:0 of `held`.
+#[repr(C)]
+pub struct Card {
+    pub registers: Registers,
+    pub mask: Mask,
+    pub copier: Copier,
+    pub held: u32,
+}
+
+// A mark as the engine stores it.
+pub const SET: u32 = 1;
+
+pub const CLEAR: u32 = 0;
 
 // One write, as the bus delivers it: space 0 is the frame, 1 the registers. Lanes, the scope paper's word, are the byte enables of the bus.
 pub struct Write {
@@ -68,180 +81,27 @@ pub struct Reading {
 
 const ONES: u32 = 0xFFFF_FFFF;
 
-// The rows of specs/Registers.antt.
-const TABLE: [Row; 19] = [
-    Row {
-        offset: 0x0020,
-        register: Register::Foreground,
-        kept: ONES,
-        reset: 0,
-        readable: true,
-    },
-    Row {
-        offset: 0x0024,
-        register: Register::Background,
-        kept: ONES,
-        reset: 0,
-        readable: true,
-    },
-    Row {
-        offset: 0x0028,
-        register: Register::PlaneMask,
-        kept: ONES,
-        reset: ONES,
-        readable: true,
-    },
-    Row {
-        offset: 0x002C,
-        register: Register::PixelMaskOnce,
-        kept: ONES,
-        reset: ONES,
-        readable: true,
-    },
-    Row {
-        offset: 0x0030,
-        register: Register::Mode,
-        kept: ONES,
-        reset: 0,
-        readable: true,
-    },
-    Row {
-        offset: 0x0034,
-        register: Register::RasterOperation,
-        kept: 0xF,
-        reset: 3,
-        readable: true,
-    },
-    Row {
-        offset: 0x0038,
-        register: Register::PixelShift,
-        kept: 0xF,
-        reset: 0,
-        readable: true,
-    },
-    Row {
-        offset: 0x005C,
-        register: Register::PixelMask,
-        kept: ONES,
-        reset: ONES,
-        readable: true,
-    },
-    Row {
-        offset: 0x0080,
-        register: Register::FillMask,
-        kept: ONES,
-        reset: 0,
-        readable: true,
-    },
-    Row {
-        offset: 0x0140,
-        register: Register::BlockColour(0),
-        kept: ONES,
-        reset: 0,
-        readable: true,
-    },
-    Row {
-        offset: 0x0144,
-        register: Register::BlockColour(1),
-        kept: ONES,
-        reset: 0,
-        readable: true,
-    },
-    Row {
-        offset: 0x0148,
-        register: Register::BlockColour(2),
-        kept: ONES,
-        reset: 0,
-        readable: true,
-    },
-    Row {
-        offset: 0x014C,
-        register: Register::BlockColour(3),
-        kept: ONES,
-        reset: 0,
-        readable: true,
-    },
-    Row {
-        offset: 0x0150,
-        register: Register::BlockColour(4),
-        kept: ONES,
-        reset: 0,
-        readable: true,
-    },
-    Row {
-        offset: 0x0154,
-        register: Register::BlockColour(5),
-        kept: ONES,
-        reset: 0,
-        readable: true,
-    },
-    Row {
-        offset: 0x0158,
-        register: Register::BlockColour(6),
-        kept: ONES,
-        reset: 0,
-        readable: true,
-    },
-    Row {
-        offset: 0x015C,
-        register: Register::BlockColour(7),
-        kept: ONES,
-        reset: 0,
-        readable: true,
-    },
-    Row {
-        offset: 0x0160,
-        register: Register::CopySource,
-        kept: ONES,
-        reset: 0,
-        readable: false,
-    },
-    Row {
-        offset: 0x0164,
-        register: Register::CopyDestination,
-        kept: ONES,
-        reset: 0,
-        readable: false,
-    },
-];
-
-// The row of an offset; `Missing` where no register has it.
-pub fn find(offset: u32) -> Row
-    ensures { λ r. ⌜ r ≡ rowAt offset ⌝ }
-{
-    let rows = TABLE;
-    let mut i: usize = 0;
-    while i < 19 {
-        let row = rows[i];
-        if row.offset == offset {
-            return row;
-        }
-        i += 1;
-    }
-    Row {
-        offset,
-        register: Register::Missing,
-        kept: 0,
-        reset: 0,
-        readable: false,
-    }
-}
-
 impl Card {
     // Every register and mark at reset, with no plane held.
     pub const RESET: Card = Card {
-        foreground: 0,
-        background: 0,
-        plane: ONES,
-        pixel: ONES,
-        mode: 0,
-        raster: 3,
-        fill: 0,
-        block: [0, 0, 0, 0, 0, 0, 0, 0],
-        buffer: [0; 64],
-        marked: false,
-        loaded: false,
-        writing: false,
+        registers: Registers {
+            foreground: 0,
+            background: 0,
+            plane: ONES,
+            mode: 0,
+            raster: 3,
+            fill: 0,
+            block: [0, 0, 0, 0, 0, 0, 0, 0],
+        },
+        mask: Mask {
+            bits: ONES,
+            marked: CLEAR,
+        },
+        copier: Copier {
+            buffer: [0; 64],
+            loaded: CLEAR,
+            writing: CLEAR,
+        },
         held: 0,
     };
 
@@ -250,29 +110,8 @@ impl Card {
         ensures { λ r. ⌜ r ≡ resetCard held ⌝ }
     {
         let mut card = Card::RESET;
-        card.held = held;
+        card.held = held as u32;
         card
-    }
-}
-
-// A number for each register, to tell them apart.
-pub fn code_of(register: Register) -> u8
-    ensures { λ r. ⌜ r ≡ code register ⌝ }
-{
-    match register {
-        Register::Foreground => 0,
-        Register::Background => 1,
-        Register::PlaneMask => 2,
-        Register::PixelMaskOnce => 3,
-        Register::Mode => 4,
-        Register::RasterOperation => 5,
-        Register::PixelShift => 6,
-        Register::PixelMask => 7,
-        Register::FillMask => 8,
-        Register::BlockColour(_) => 9,
-        Register::CopySource => 10,
-        Register::CopyDestination => 11,
-        Register::Missing => 12,
     }
 }
 
@@ -280,19 +119,20 @@ pub fn code_of(register: Register) -> u8
 fn value(card: Card, register: Register) -> u32
     ensures { λ r. ⌜ r ≡ holds card register ⌝ }
 {
+    let registers = card.registers;
     match register {
-        Register::Foreground => card.foreground,
-        Register::Background => card.background,
-        Register::PlaneMask => card.plane,
-        Register::PixelMaskOnce => card.pixel,
-        Register::Mode => card.mode,
-        Register::RasterOperation => card.raster,
+        Register::Foreground => registers.foreground,
+        Register::Background => registers.background,
+        Register::PlaneMask => registers.plane,
+        Register::PixelMaskOnce => card.mask.bits,
+        Register::Mode => registers.mode,
+        Register::RasterOperation => registers.raster,
         Register::PixelShift => 0,
-        Register::PixelMask => card.pixel,
-        Register::FillMask => card.fill,
+        Register::PixelMask => card.mask.bits,
+        Register::FillMask => registers.fill,
         Register::BlockColour(k) => {
             let at = (k % 8) as usize;
-            card.block[at]
+            registers.block[at]
         }
         Register::CopySource => 0,
         Register::CopyDestination => 0,
@@ -300,16 +140,16 @@ fn value(card: Card, register: Register) -> u32
     }
 }
 
-// A register read: number 0 with the value, or 4 with 0.
+// A register read: number 0 with the bits of the value that its row keeps, or 4 with 0.
 pub fn read(card: Card, offset: u32) -> Reading
     ensures { λ r. ⌜ r ≡ reading card offset ⌝ }
 {
-    let row = find(offset);
+    let row = table::find(offset);
     if row.readable {
         let register = row.register;
         Reading {
             number: 0,
-            value: value(card, register),
+            value: value(card, register) & row.kept,
         }
     } else {
         Reading {
@@ -326,46 +166,48 @@ pub fn store(card: Card, register: Register, v: u32) -> Card
     let mut next = card;
     match register {
         Register::Foreground => {
-            next.foreground = v;
+            next.registers.foreground = v;
             next
         }
         Register::Background => {
-            next.background = v;
+            next.registers.background = v;
             next
         }
         Register::PlaneMask => {
-            next.plane = v;
+            next.registers.plane = v;
             next
         }
         Register::PixelMaskOnce => {
-            next.pixel = v;
-            next.marked = true;
+            next.mask.bits = v;
+            next.mask.marked = SET;
             next
         }
         Register::Mode => {
-            next.mode = v;
+            next.registers.mode = v;
             next
         }
         Register::RasterOperation => {
-            next.raster = v;
+            next.registers.raster = v;
             next
         }
         Register::PixelShift => {
-            next.writing = false;
+            next.copier.writing = CLEAR;
             next
         }
         Register::PixelMask => {
-            next.pixel = v;
-            next.marked = false;
+            next.mask.bits = v;
+            next.mask.marked = CLEAR;
             next
         }
         Register::FillMask => {
-            next.fill = v;
+            next.registers.fill = v;
             next
         }
         Register::BlockColour(k) => {
             let at = (k % 8) as usize;
-            next.block[at] = v;
+            let mut registers = card.registers;
+            registers.block[at] = v;
+            next.registers = registers;
             next
         }
         Register::CopySource => next,

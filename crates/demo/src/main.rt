@@ -223,12 +223,16 @@ fn marks(card: Card, vram: &mut [u8]) -> Card {
     filled(card, 32, 124, 62, 1, vram)
 }
 
-// The caliper, by exclusive-or.
-fn caliper(card: Card, vram: &mut [u8]) -> Card {
+// Exclusive-or in the caliper's colour.
+fn inked(card: Card, vram: &mut [u8]) -> Card {
     let card = register(card, 0x0034, 6, vram);
-    let card = register(card, 0x0020, 0x40404040, vram);
-    let card = marks(card, vram);
-    register(card, 0x0034, 3, vram)
+    register(card, 0x0020, 0x40404040, vram)
+}
+
+// The caliper, by exclusive-or. Made again from the same card, it is taken off.
+fn caliper(card: Card, vram: &mut [u8]) {
+    let card = inked(card, vram);
+    marks(card, vram);
 }
 
 fn line(what: &[u8], n: usize) {
@@ -237,19 +241,32 @@ fn line(what: &[u8], n: usize) {
     io::write_all(STDOUT_FILENO, b"\n");
 }
 
-// Draws the screen, and says what was drawn.
-fn screen(vram: &mut [u8; 65536]) {
+// The alarm border.
+fn alarm(vram: &mut [u8; 65536]) {
     border(vram);
     line(b"alarm border, pixels: ", show::at_least(vram, 128));
+}
+
+// The whole screen in grey.
+fn grey(vram: &mut [u8]) -> Card {
     let card = colour(Card::reset(0x80), 0x30303030, vram);
-    let card = filled(card, 0, 0, 255, 256, vram);
+    filled(card, 0, 0, 255, 256, vram)
+}
+
+// The screen that holds plane 7, with its trace.
+fn bedside(vram: &mut [u8; 65536]) -> Card {
+    let card = grey(vram);
     line(
         b"alarm border after a grey fill of the whole screen, pixels: ",
         show::at_least(vram, 128),
     );
-    let card = trace(card, vram);
+    trace(card, vram)
+}
+
+// The caliper, drawn and taken off from one card.
+fn measured(card: Card, vram: &mut [u8; 65536]) {
     let before = *vram;
-    let card = caliper(card, vram);
+    caliper(card, vram);
     line(
         b"caliper drawn by exclusive-or, pixels changed: ",
         show::differing(vram, &before),
@@ -262,6 +279,13 @@ fn screen(vram: &mut [u8; 65536]) {
         b"caliper taken off the same way, pixels left: ",
         show::differing(vram, &before),
     );
+}
+
+// Draws the screen, and says what was drawn.
+fn screen(vram: &mut [u8; 65536]) {
+    alarm(vram);
+    let card = bedside(vram);
+    measured(card, vram);
 }
 
 // The picture, in the file that the argument names.

@@ -7,7 +7,7 @@ use native.Mathlib.Omega.{arith}
 use lib.Dec.{ltb}
 use lib.ListN.{length, take, drop}
 use borrow.Author.Tests.{eq-eqb, ne-eqb, ltb-false}
-use Rattle.engine.specs.Refusal.{badLength}
+use Rattle.rules.specs.Refusal.{badLength}
 use Rattle.engine.specs.ReadBack.{backNumber, backPart}
 
 pub back-refused : (v : List ℕ) (a n : ℕ) → (backNumber (length v) a n ≡ 0 → ⊥) → [] ≡ backPart v a n

@@ -1,6 +1,6 @@
 -- The bytes that a span takes, as the pattern routines digest them. Assumes nothing.
 use mathlib.Core.Path.{_≡_, refl, ap, ap₂, sym, _∙_}
-use mathlib.Core.Bool.{Bool, true, false, cond}
+use mathlib.Core.Bool.{Bool, true, false, cond, false≢true}
 use mathlib.Core.List.{List, [], _∷_}
 use Prim.Native.Nat.{ℕ, zero, suc, _+_, _/_, _%_, _<_}
 use native.Mathlib.Nat.{mod-lt, zero-add}
@@ -11,11 +11,9 @@ use Rattle.raster.specs.Pixel.{bit}
 use Rattle.span.specs.Fragments.{byte, listed}
 use Rattle.span.proofs.Listed.{listed-at, listed-same}
 use Rattle.card.specs.declared.Card.{Card}
-use Rattle.card.specs.declared.Write.{Write}
-use Rattle.engine.specs.Modes.{foreground, background, fillFirst, frameSpan}
-use Rattle.engine.specs.declared.Mode.{Mode}
-use Rattle.engine.specs.declared.Mode.the-variants.{Simple, OpaqueStipple, TransparentStipple, OpaqueFill, TransparentFill, BlockStipple, BlockFill, Copy}
-use Rattle.engine.proofs.Words.{first-turn}
+use Rattle.rules.specs.Plan.{takenBy, isWhole}
+use Rattle.rules.specs.declared.plan.Paint.{Paint}
+use Rattle.rules.specs.declared.plan.Paint.the-variants.{Words, Colours, Half, Whole}
 
 -- the eight bytes of two registers
 abbrev pub eight : ℕ → ℕ → List ℕ
@@ -71,16 +69,12 @@ by-four : (phase first j : ℕ) → phase % 8 ≡ first % 8 → (phase + j % 32)
 by-four phase first j h = omega arith
 
 -- pixel j, whose address is first + j, reads its byte out of the digested words
-words-at : (pick x y phase first : ℕ) {r : List ℕ} → r ≡ wordsOf pick x y phase → phase % 8 ≡ first % 8
+pub words-at : (pick x y phase first : ℕ) {r : List ℕ} → r ≡ wordsOf pick x y phase → phase % 8 ≡ first % 8
     → (j : ℕ) → getD r (j % 32) 0 ≡ cond (bit pick (j % 32)) (byte x ((first + j) % 4)) (byte y ((first + j) % 4))
 words-at pick x y phase first e h j =
     ap (λ (l : List ℕ). getD l (j % 32) 0) e
     ∙ (listed-at 32 (λ k. cond (bit pick k) (byte x ((phase + k) % 4)) (byte y ((phase + k) % 4))) (j % 32) (mod-lt j (lit< tt))
     ∙ ap (λ (t : ℕ). cond (bit pick (j % 32)) (byte x t) (byte y t)) (by-four phase first j h))
-
-word-at : (x phase first : ℕ) {r : List ℕ} → r ≡ wordsOf 0 x x phase → phase % 8 ≡ first % 8
-    → (j : ℕ) → getD r (j % 32) 0 ≡ byte x ((first + j) % 4)
-word-at x phase first e h j = words-at 0 x x phase first e h j ∙ same (bit 0 (j % 32)) (byte x ((first + j) % 4))
 
 two : (block : List ℕ) (t : ℕ) → t < 2 → getD (getD block 0 0 ∷ getD block 1 0 ∷ []) t 0 ≡ getD block t 0
 two block zero h = refl
@@ -91,7 +85,7 @@ half-of : (p : ℕ) → p % 8 / 4 < 2
 half-of p = omega arith
 
 -- and out of the digested colours
-colours-at : (block : List ℕ) (phase first : ℕ) {r : List ℕ} → r ≡ coloursOf (getD block 0 0) (getD block 1 0) phase
+pub colours-at : (block : List ℕ) (phase first : ℕ) {r : List ℕ} → r ≡ coloursOf (getD block 0 0) (getD block 1 0) phase
     → phase % 8 ≡ first % 8 → (j : ℕ) → getD r (j % 32) 0 ≡ byte (getD block ((first + j) % 8 / 4) 0) ((first + j) % 4)
 colours-at block phase first e h j =
     ap (λ (l : List ℕ). getD l (j % 32) 0) e
@@ -107,44 +101,14 @@ half-at buffer at e j h =
     let a : j % 32 ≡ j = omega arith in
     ap₂ (λ (l : List ℕ) (t : ℕ). getD l t 0) e a ∙ listed-at 32 (λ k. getD buffer (at + k) 0) j h
 
--- the digested bytes are what each mode's pixels take
-abbrev Takes : Mode → Card → Write → List ℕ → Type 0
-Takes m c w r = (j : ℕ) → j < frameSpan m c w .width → getD r (j % 32) 0 ≡ frameSpan m c w .takes j
+pub first-half-at : (buffer : List ℕ) {r : List ℕ} → r ≡ listed 32 (λ k. getD buffer (0 + k) 0) → (j : ℕ) → getD r (j % 32) 0 ≡ getD buffer (j % 32) 0
+first-half-at buffer e j =
+    ap (λ (l : List ℕ). getD l (j % 32) 0) e
+    ∙ (listed-at 32 (λ k. getD buffer (0 + k) 0) (j % 32) (mod-lt j (lit< tt)) ∙ ap (λ (t : ℕ). getD buffer t 0) (zero-add (j % 32)))
 
-module _ (c : Card) (w : Write) {r : List ℕ} where
-  pub takes-simple : r ≡ wordsOf 0 (w .«data») (w .«data») 0 → Takes Simple c w r
-  unfolding frameSpan
-  takes-simple e j h =
-      let a : (0 + j) % 4 ≡ j = omega arith in
-      word-at (w .«data») 0 0 e refl j ∙ ap (λ (t : ℕ). byte (w .«data») t) a
-
-  pub takes-opaque-stipple : r ≡ wordsOf (w .«data») (c .foreground) (c .background) (w .address) → Takes OpaqueStipple c w r
-  unfolding frameSpan
-  takes-opaque-stipple e j h =
-      words-at (w .«data») (c .foreground) (c .background) (w .address) (w .address) e refl j
-      ∙ ap (λ (b : Bool). cond b (foreground c (w .address + j)) (background c (w .address + j))) (first-turn (w .«data») j h)
-
-  pub takes-transparent-stipple : r ≡ wordsOf 0 (c .foreground) (c .foreground) (w .address) → Takes TransparentStipple c w r
-  unfolding frameSpan
-  takes-transparent-stipple e j h = word-at (c .foreground) (w .address) (w .address) e refl j
-
-  pub takes-block-stipple : r ≡ coloursOf (getD (c .block) 0 0) (getD (c .block) 1 0) (w .address) → Takes BlockStipple c w r
-  unfolding frameSpan
-  takes-block-stipple e j h = colours-at (c .block) (w .address) (w .address) e refl j
-
-  pub takes-copy : r ≡ listed 32 (λ k. getD (c .buffer) (0 + k) 0) → Takes Copy c w r
-  unfolding frameSpan
-  takes-copy e j h = half-at (c .buffer) 0 e j h ∙ ap (λ (t : ℕ). getD (c .buffer) t 0) (zero-add j)
-
-  module _ (phase : ℕ) (at : phase % 8 ≡ fillFirst w % 8) where
-    pub takes-opaque-fill : r ≡ wordsOf (c .fill) (c .foreground) (c .background) phase → Takes OpaqueFill c w r
-    unfolding frameSpan
-    takes-opaque-fill e j h = words-at (c .fill) (c .foreground) (c .background) phase (fillFirst w) e at j
-
-    pub takes-transparent-fill : r ≡ wordsOf 0 (c .foreground) (c .foreground) phase → Takes TransparentFill c w r
-    unfolding frameSpan
-    takes-transparent-fill e j h = word-at (c .foreground) phase (fillFirst w) e at j
-
-    pub takes-block-fill : r ≡ coloursOf (getD (c .block) 0 0) (getD (c .block) 1 0) phase → Takes BlockFill c w r
-    unfolding frameSpan
-    takes-block-fill e j h = colours-at (c .block) phase (fillFirst w) e at j
+-- the whole copy buffer is its bytes in order
+pub whole-takes : (p : Paint) (c : Card) (j : ℕ) → isWhole p ≡ true → takenBy p c j ≡ getD (c .copier .buffer) j 0
+whole-takes (Words pick ink paper at) c j e = absurd (false≢true e)
+whole-takes (Colours at) c j e = absurd (false≢true e)
+whole-takes Half c j e = absurd (false≢true e)
+whole-takes Whole c j e = refl

@@ -1,8 +1,3 @@
--- What the crate `engine` means: scope paper, "Numbers returned", "How one pixel is made" and "Modes".
-pub mod Modes
-pub mod Refusal
-pub mod Writes
-pub mod Brush
-pub mod ReadBack
+-- What the crate `engine` promises: a write, and read-back.
 pub mod Contract
-pub mod Sequences
+pub mod ReadBack

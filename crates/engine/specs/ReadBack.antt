@@ -4,7 +4,7 @@ use mathlib.Core.List.{List, []}
 use Prim.Native.Nat.{ℕ, _+_}
 use lib.Dec.{eqb, ltb}
 use lib.ListN.{length, take, drop}
-use Rattle.engine.specs.Refusal.{badLength}
+use Rattle.rules.specs.Refusal.{badLength}
 
 -- 1, or 8 where a + n, as whole numbers, exceeds the length, or 0
 unfoldable pub backNumber : ℕ → ℕ → ℕ → ℕ

@@ -1,67 +1,76 @@
 // The next card, after an accepted write.
 ghost use mathlib.Core.Path.{_≡_};
-ghost use mathlib.Core.Bool.{true};
-ghost use Prim.Native.Nat.{_+_, _≤_};
 ghost use lib.ListN.{length};
-ghost use Rattle.engine.specs.Modes.{modeOf, isCopy, registerOf};
-ghost use Rattle.card.specs.Registers.{code};
-ghost use Rattle.engine.specs.Writes.{usedUp, afterFrame, afterRegister};
+ghost use Rattle.rules.specs.Plan.{left as leftBy, Within};
+ghost use Rattle.rules.specs.Writes.{usedUp};
 use crate::copy;
+use card::CLEAR;
 use card::Card;
+use card::Copier;
+use card::Mask;
+use card::SET;
 use card::Write;
+use rules::plan::Effect;
 
 // A one-shot pixel mask is used up.
-fn used_up(card: Card) -> Card
-    ensures { λ r. ⌜ r ≡ usedUp card ⌝ }
+fn used_up(mask: Mask) -> Mask
+    ensures { λ r. ⌜ r ≡ usedUp mask ⌝ }
+{
+    if mask.marked == CLEAR {
+        return Mask {
+            bits: mask.bits,
+            marked: CLEAR,
+        };
+    }
+    Mask {
+        bits: 0xFFFF_FFFF,
+        marked: CLEAR,
+    }
+}
+
+// The card that an effect leaves. Those that look at the picture have to find their span inside.
+pub(crate) fn left(effect: Effect, card: Card, w: Write, vram: &[u8]) -> Card
+    requires { ⌜ Within effect w (length (now vram)) ⌝ }
+    ensures { λ r. ⌜ r ≡ leftBy effect card w (now (vram .entry)) ⌝ }
 {
     let mut next = card;
-    next.marked = false;
-    if card.marked {
-        next.pixel = 0xFFFF_FFFF;
-        return next;
+    let mask = used_up(card.mask);
+    match effect {
+        Effect::UsesMask => {
+            next.mask = mask;
+            next
+        }
+        Effect::ReadsSource => {
+            let buffer = card.copier.buffer;
+            let read = copy::read_32(vram, w.address as usize, w.data, buffer);
+            let copier = Copier {
+                buffer: read,
+                loaded: CLEAR,
+                writing: SET,
+            };
+            next.mask = mask;
+            next.copier = copier;
+            next
+        }
+        Effect::DrawsDestination => {
+            next.mask = mask;
+            next.copier.writing = CLEAR;
+            next
+        }
+        Effect::Stores { register, value } => card::store(card, register, value),
+        Effect::Loads => {
+            let read = copy::read_64(vram, w.data as usize);
+            let copier = Copier {
+                buffer: read,
+                loaded: SET,
+                writing: card.copier.writing,
+            };
+            next.copier = copier;
+            next
+        }
+        Effect::Unloads => {
+            next.copier.loaded = CLEAR;
+            next
+        }
     }
-    next
-}
-
-// After a frame write. Copy mode looks at the picture, and so has to find its span inside.
-pub(crate) fn frame(card: Card, w: Write, vram: &[u8]) -> Card
-    requires { ⌜ (isCopy (modeOf (card .mode)) ≡ true → w .address + 32 ≤ length (now vram)) ⌝ }
-    ensures { λ r. ⌜ r ≡ afterFrame card w (now (vram .entry)) ⌝ }
-{
-    let mut next = used_up(card);
-    if crate::rank_of(crate::mode_of(card.mode)) != 7 {
-        return next;
-    }
-    if card.writing {
-        next.writing = false;
-        return next;
-    }
-    let buffer = card.buffer;
-    let read = copy::read_32(vram, w.address as usize, w.data, buffer);
-    next.buffer = read;
-    next.loaded = false;
-    next.writing = true;
-    next
-}
-
-// After a register write. The 64-byte source looks at the picture, and so has to find its span inside.
-pub(crate) fn register(card: Card, w: Write, vram: &[u8]) -> Card
-    requires { ⌜ (code (registerOf w) ≡ 10 → w .«data» + 64 ≤ length (now vram)) ⌝ }
-    ensures { λ r. ⌜ r ≡ afterRegister card w (now (vram .entry)) ⌝ }
-{
-    let row = card::find(w.address);
-    let register = row.register;
-    let g = card::code_of(register);
-    let mut next = card::store(card, register, w.data & row.kept);
-    if g == 10 {
-        let read = copy::read_64(vram, w.data as usize);
-        next.buffer = read;
-        next.loaded = true;
-        return next;
-    }
-    if g == 11 {
-        next.loaded = false;
-        return next;
-    }
-    next
 }

@@ -1,114 +1,70 @@
-// What a frame write draws, as strokes for the span routine.
+// What a plan draws, as strokes for the span routine.
 ghost use mathlib.Core.Path.{_≡_};
-ghost use mathlib.Core.Bool.{cond};
-ghost use Prim.Native.Nat.{ℕ, _%_, _<_, _≤_};
+ghost use mathlib.Core.Bool.{true, false};
+ghost use Prim.Native.Nat.{ℕ, _%_, _≤_};
 ghost use lib.ListN.{getD};
-ghost use Rattle.raster.specs.Pixel.{bit};
-ghost use Rattle.engine.specs.Brush.{Draws, halfSpan};
-ghost use Rattle.engine.specs.Modes.{fillFirst, frameSpan, isBlock};
-use crate::Mode;
+ghost use Rattle.span.specs.Spans.{piece};
+ghost use Rattle.span.specs.Strokes.{Draws};
+ghost use Rattle.rules.specs.Modes.{effective};
+ghost use Rattle.rules.specs.Plan.{isWhole, takenBy, planned};
 use crate::pattern;
-use crate::reach;
 use card::Card;
-use card::Write;
+use rules::plan::Paint;
+use rules::plan::Plan;
 use span::Strokes;
 
-const ONES: u32 = 0xFFFF_FFFF;
-
-// The word whose bit j mod 32 enables pixel j.
-fn enables(m: Mode, card: Card, w: Write) -> u32
-    ensures { λ r. ⌜ ((j : ℕ) → j < frameSpan m card w .width → bit r (j % 32) ≡ frameSpan m card w .on j) ⌝ }
+// The 32 bytes whose byte j mod 32 pixel j takes. The whole copy buffer is drawn in halves.
+fn sources(p: Paint, card: Card) -> [u8; 32]
+    ensures { λ r. ⌜ (isWhole p ≡ false → (j : ℕ) → getD r (j % 32) 0 ≡ takenBy p card j) ⌝ }
 {
-    match m {
-        Mode::Simple => w.lanes as u32 & card.pixel,
-        Mode::OpaqueStipple => card.pixel,
-        Mode::TransparentStipple => w.data,
-        Mode::OpaqueFill => ONES,
-        Mode::TransparentFill => card.fill,
-        Mode::BlockStipple => w.data,
-        Mode::BlockFill => card.fill,
-        Mode::Copy => { if card.writing { w.data } else { 0 } }
-        Mode::Unlisted => 0,
+    let registers = card.registers;
+    let zero = registers.block[0];
+    let one = registers.block[1];
+    let buffer = card.copier.buffer;
+    match p {
+        Paint::Words {
+            pick,
+            ink,
+            paper,
+            at,
+        } => pattern::words(pick, ink, paper, at),
+        Paint::Colours { at } => pattern::colours(zero, one, at),
+        Paint::Half => pattern::half(buffer, 0),
+        Paint::Whole => [0u8; 32],
     }
 }
 
-// The first address of a fill, mod 8.
-fn fill_phase(w: Write) -> u32
-    ensures { λ r. ⌜ r % 8 ≡ fillFirst w % 8 ⌝ }
+// The strokes of a plan.
+pub(crate) fn strokes(p: Plan, card: Card) -> Strokes
+    requires { ⌜ isWhole (p .paint) ≡ false ⌝ }
+    ensures { λ r. ⌜ Draws r (p .op) (effective card) (planned p card) ⌝ }
 {
-    w.address % 8 + w.data / 65536 % 4
-}
-
-// The 32 bytes whose byte j mod 32 pixel j takes.
-fn sources(m: Mode, card: Card, w: Write) -> [u8; 32]
-    ensures { λ r. ⌜ ((j : ℕ) → j < frameSpan m card w .width → getD r (j % 32) 0 ≡ frameSpan m card w .takes j) ⌝ }
-{
-    let fore = card.foreground;
-    let back = card.background;
-    let zero = card.block[0];
-    let one = card.block[1];
-    match m {
-        Mode::Simple => pattern::words(0, w.data, w.data, 0),
-        Mode::OpaqueStipple => pattern::words(w.data, fore, back, w.address),
-        Mode::TransparentStipple => pattern::words(0, fore, fore, w.address),
-        Mode::OpaqueFill => pattern::words(card.fill, fore, back, fill_phase(w)),
-        Mode::TransparentFill => pattern::words(0, fore, fore, fill_phase(w)),
-        Mode::BlockStipple => pattern::colours(zero, one, w.address),
-        Mode::BlockFill => pattern::colours(zero, one, fill_phase(w)),
-        Mode::Copy => {
-            let buffer = card.buffer;
-            pattern::half(buffer, 0)
-        }
-        Mode::Unlisted => [0u8; 32],
-    }
-}
-
-// The operation that a frame write draws with: block modes take the source.
-fn operation_of(m: Mode, raster: u32) -> u8
-    ensures { λ r. ⌜ r ≡ cond (isBlock m) 3 (raster % 16) ⌝ }
-{
-    let rank = crate::rank_of(m);
-    if rank == 5 {
-        return 3;
-    }
-    if rank == 6 {
-        return 3;
-    }
-    (raster % 16) as u8
-}
-
-// The strokes of a frame write.
-pub(crate) fn strokes(m: Mode, card: Card, w: Write) -> Strokes
-    ensures { λ r. ⌜ Draws r (cond (isBlock m) 3 (card .raster % 16)) card (frameSpan m card w) ⌝ }
-{
-    let e = reach::of_frame(m, w);
-    let op = operation_of(m, card.raster);
-    let enable = enables(m, card, w);
-    let source = sources(m, card, w);
-    let mask = pattern::masks(card);
-    let phase = (e.first % 4) as u32;
+    let paint = p.paint;
+    let source = sources(paint, card);
+    let mask = pattern::masks(card.registers.plane, card.held);
+    let phase = (p.first % 4) as u32;
     Strokes {
-        op,
-        enable,
+        op: p.op,
+        enable: p.enable,
         source,
         mask,
         phase,
-        width: e.width,
+        width: p.width,
     }
 }
 
-// The strokes of one half of a 64-byte destination at an address: the half that starts at buffer byte `at`, which is 0 or 32.
-pub(crate) fn half_strokes(card: Card, address: u32, at: usize) -> Strokes
-    requires { ⌜ at ≤ 32 ⌝ }
-    ensures { λ r. ⌜ Draws r (card .raster % 16) card (halfSpan card address at) ⌝ }
+// The strokes of half of the copy buffer: the half that starts at byte k, which is 0 or 32.
+pub(crate) fn half_strokes(p: Plan, card: Card, first: usize, k: usize) -> Strokes
+    requires { ⌜ (isWhole (p .paint) ≡ true) × (first ≡ p .first) × (k % 32 ≡ 0) × (k ≤ 32) ⌝ }
+    ensures { λ r. ⌜ Draws r (p .op) (effective card) (piece k 32 (planned p card)) ⌝ }
 {
-    let buffer = card.buffer;
-    let source = pattern::half(buffer, at);
-    let mask = pattern::masks(card);
-    let phase = ((address as usize + at) % 4) as u32;
+    let buffer = card.copier.buffer;
+    let source = pattern::half(buffer, k);
+    let mask = pattern::masks(card.registers.plane, card.held);
+    let phase = ((first % 4 + k) % 4) as u32;
     Strokes {
-        op: (card.raster % 16) as u8,
-        enable: ONES,
+        op: p.op,
+        enable: p.enable,
         source,
         mask,
         phase,

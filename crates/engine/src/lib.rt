@@ -1,97 +1,48 @@
 // The engine: one write at a time, with the card's state and a lent video memory.
-// What each function means stands in specs/, under the headings of the scope paper.
+// What a write means stands in the crate `rules`; what each function here promises stands in specs/.
 ghost use mathlib.Core.Path.{_≡_};
-ghost use lib.ListN.{length};
 ghost use Rattle.engine.specs.Contract.{Written};
-ghost use Rattle.engine.specs.Modes.{modeOf, rank};
 ghost use Rattle.engine.specs.ReadBack.{backNumber, backPart};
 use card::Card;
 use card::Write;
+use rules::plan;
+use rules::refusal;
+use span::Tally;
 
-mod accepted;
 mod after;
 mod brush;
 mod copy;
+mod draw;
 mod pattern;
-mod reach;
-pub mod refusal;
 
-// The drawing modes.
-pub enum Mode {
-    Simple,
-    OpaqueStipple,
-    TransparentStipple,
-    OpaqueFill,
-    TransparentFill,
-    BlockStipple,
-    BlockFill,
-    Copy,
-    Unlisted,
-}
-
-// Where a span lies: its first pixel and its width.
-pub struct Extent {
-    pub first: usize,
-    pub width: u32,
-}
-
-// What a write answers: its number, the pixels enabled, and the next card.
+// What a write answers: its number, what was drawn, and the next card.
 pub struct Answer {
     pub number: u32,
-    pub count: u32,
+    pub tally: Tally,
     pub card: Card,
 }
 
-// The mode of a whole register value.
-fn mode_of(v: u32) -> Mode
-    ensures { λ r. ⌜ r ≡ modeOf v ⌝ }
-{
-    match v {
-        0x00 => Mode::Simple,
-        0x01 => Mode::OpaqueStipple,
-        0x05 => Mode::TransparentStipple,
-        0x21 => Mode::OpaqueFill,
-        0x45 => Mode::TransparentFill,
-        0x0D => Mode::BlockStipple,
-        0x2D => Mode::BlockFill,
-        0x07 => Mode::Copy,
-        _ => Mode::Unlisted,
-    }
-}
-
-// A number for each mode, to tell them apart.
-fn rank_of(m: Mode) -> u8
-    ensures { λ r. ⌜ r ≡ rank m ⌝ }
-{
-    match m {
-        Mode::Simple => 0,
-        Mode::OpaqueStipple => 1,
-        Mode::TransparentStipple => 2,
-        Mode::OpaqueFill => 3,
-        Mode::TransparentFill => 4,
-        Mode::BlockStipple => 5,
-        Mode::BlockFill => 6,
-        Mode::Copy => 7,
-        Mode::Unlisted => 8,
-    }
-}
-
-// One write. A refused one answers its number with count 0, and leaves the card and every byte of VRAM.
+// One write. A refused one answers its number with no pixel counted, and leaves the card and every byte of VRAM.
 pub fn write(card: Card, w: Write, vram: &mut [u8]) -> Answer
     ensures { λ r. ⌜ Written card w (now (vram .entry)) r (now (vram .exit)) ⌝ }
 {
-    let number = refusal::refuse(card, w, vram.len());
+    let p = plan::of(card, w);
+    let number = refusal::refuse(p, w, vram.len());
     if number != 0 {
+        let tally = Tally { enabled: 0 };
         return Answer {
             number,
-            count: 0,
+            tally,
             card,
         };
     }
-    if w.space == 1 {
-        accepted::register(card, w, vram)
-    } else {
-        accepted::frame(card, w, vram)
+    let effect = p.effect;
+    let next = after::left(effect, card, w, vram);
+    let tally = draw::planned(p, card, vram);
+    Answer {
+        number: 0,
+        tally,
+        card: next,
     }
 }
 

@@ -6,8 +6,7 @@ ghost use Prim.Native.Nat.{ℕ, _+_, _/_, _%_, _≤_};
 ghost use lib.ListN.{getD};
 ghost use Rattle.raster.specs.Pixel.{bit, number};
 ghost use Rattle.span.specs.Fragments.{byte, listed};
-ghost use Rattle.engine.specs.Modes.{effective};
-use card::Card;
+ghost use Rattle.rules.specs.Modes.{effectiveBy};
 
 // The bits of b outside h.
 fn cleared(b: u8, h: u8) -> u8
@@ -16,17 +15,16 @@ fn cleared(b: u8, h: u8) -> u8
     b ^ (b & h)
 }
 
-// The effective masks of the pixels whose address is 0, 1, 2 and 3 mod 4.
-pub(crate) fn masks(card: Card) -> [u8; 4]
-    ensures { λ r. ⌜ ((p : ℕ) → getD r (p % 4) 0 ≡ effective card p) ⌝ }
+// The effective masks of the pixels whose address is 0, 1, 2 and 3 mod 4: the plane mask's bytes outside the held planes.
+pub(crate) fn masks(plane: u32, held: u32) -> [u8; 4]
+    ensures { λ r. ⌜ ((p : ℕ) → getD r (p % 4) 0 ≡ effectiveBy plane held p) ⌝ }
 {
-    let m = card.plane;
-    let h = card.held;
+    let h = (held % 256) as u8;
     [
-        cleared((m % 256) as u8, h),
-        cleared((m / 256 % 256) as u8, h),
-        cleared((m / 65536 % 256) as u8, h),
-        cleared((m / 16777216 % 256) as u8, h),
+        cleared((plane % 256) as u8, h),
+        cleared((plane / 256 % 256) as u8, h),
+        cleared((plane / 65536 % 256) as u8, h),
+        cleared((plane / 16777216 % 256) as u8, h),
     ]
 }
 
@@ -54,10 +52,10 @@ pub(crate) fn either(b: bool, x: u8, y: u8) -> u8
 }
 
 // Pixel k takes a byte of `on` where bit k of `pick` is set, else of `off`, by its address mod 8; the first address is `phase` mod 8.
-fn choose(pick: u32, on: [u8; 8], off: [u8; 8], phase: u32) -> [u8; 32]
+fn choose(pick: u32, on: [u8; 8], off: [u8; 8], phase: usize) -> [u8; 32]
     ensures { λ r. ⌜ r ≡ listed 32 (λ k. cond (bit pick k) (getD on ((phase + k) % 8) 0) (getD off ((phase + k) % 8) 0)) ⌝ }
 {
-    let start = (phase % 8) as usize;
+    let start = phase % 8;
     let mut source = [0u8; 32];
     let mut k = 0;
     while k < 32 {
@@ -69,14 +67,14 @@ fn choose(pick: u32, on: [u8; 8], off: [u8; 8], phase: u32) -> [u8; 32]
 }
 
 // Pixel k takes byte (its address mod 4) of x where bit k of `pick` is set, else of y.
-pub(crate) fn words(pick: u32, x: u32, y: u32, phase: u32) -> [u8; 32]
+pub(crate) fn words(pick: u32, x: u32, y: u32, phase: usize) -> [u8; 32]
     ensures { λ r. ⌜ r ≡ listed 32 (λ k. cond (bit pick k) (byte x ((phase + k) % 4)) (byte y ((phase + k) % 4))) ⌝ }
 {
     choose(pick, two_words(x, x), two_words(y, y), phase)
 }
 
 // Pixel k takes byte (its address mod 8) of the two colours.
-pub(crate) fn colours(a: u32, b: u32, phase: u32) -> [u8; 32]
+pub(crate) fn colours(a: u32, b: u32, phase: usize) -> [u8; 32]
     ensures { λ r. ⌜ r ≡ listed 32 (λ k. byte (getD (a ∷ b ∷ []) ((phase + k) % 8 / 4) 0) ((phase + k) % 4)) ⌝ }
 {
     let both = two_words(a, b);

@@ -6,9 +6,9 @@ use Prim.Native.Nat.{ℕ, _*_}
 use lib.ListN.{length, drop}
 use Rattle.card.specs.declared.Card.{Card}
 use Rattle.card.specs.declared.Write.{Write}
-use Rattle.engine.specs.Refusal.{refusal}
-use Rattle.engine.specs.Writes.{count, next, picture}
-use Rattle.trace.specs.Traces.{checkNumber, checkLength, checkPart}
+use Rattle.rules.specs.Refusal.{refusal}
+use Rattle.rules.specs.Writes.{count, next, picture}
+use Rattle.trace.specs.Traces.{headerSize, entrySize, checkNumber, checkLength, checkPart}
 use Rattle.trace.specs.Recording.{startNumber, startLength, started, appendNumber, appendLength, appended}
 use Rattle.trace.specs.Run.{run, unread}
 use Rattle.host.specs.declared.Answer.{Answer}
@@ -32,7 +32,7 @@ pub record Replayed (part : List ℕ) (budget : ℕ) (c : Card) (v : List ℕ) (
   pub number : r .number ≡ run part budget c v .number
   pub entries : r .entries ≡ run part budget c v .applied
   pub pixels : r .pixels ≡ run part budget c v .pixels
-  pub rest : r .rest ≡ 12 * run part budget c v .applied
+  pub rest : r .rest ≡ entrySize * run part budget c v .applied
   pub unreads : drop (r .rest) part ≡ unread part (run part budget c v .applied)
   pub leaves : c′ ≡ run part budget c v .card
   pub shows : v′ ≡ run part budget c v .picture
@@ -53,4 +53,4 @@ pub record Grew (b : List ℕ) (used : ℕ) (w : Write) (r : Checked) (b′ : Li
 pub record Looked (v : List ℕ) (r : Checked) : Type 0 where
   pub number : r .number ≡ checkNumber v
   pub lengths : r .length ≡ checkLength v
-  pub entries : r .number ≡ 0 → drop 16 v ≡ checkPart v
+  pub entries : r .number ≡ 0 → drop headerSize v ≡ checkPart v

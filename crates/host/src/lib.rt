@@ -6,6 +6,9 @@ ghost use Rattle.host.specs.Entries.{writeOf, Wrote, Began, Grew, Looked
 use card::Card;
 use card::Write;
 
+// The size of a trace's entry.
+const ENTRY: u32 = trace::ENTRY as u32;
+
 // What a write answers: its number and the pixels enabled.
 #[repr(C)]
 pub struct Answer {
@@ -146,7 +149,7 @@ fn write_on(card: Card, space: u8, lanes: u8, address: u32, word: u32, vram: &mu
     let next = a.card;
     let answer = Answer {
         number: a.number,
-        count: a.count,
+        count: a.tally.enabled,
     };
     Written { card: next, answer }
 }
@@ -156,7 +159,7 @@ fn run_on(card: Card, part: &[u8], vram: &mut [u8], budget: u32) -> Run
     ensures { λ r. ⌜ Replayed (now (part .entry)) budget card (now (vram .entry)) (r .ran) (r .card) (now (vram .exit)) ⌝ }
 {
     let t = trace::run(part, card, vram, budget);
-    let rest = 12 * t.applied;
+    let rest = ENTRY * t.applied;
     let next = t.card;
     let ran = Ran {
         number: t.number,

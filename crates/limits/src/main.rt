@@ -28,7 +28,7 @@ fn says(what: &[u8], card: Card, address: u32, data: u32, vram: &mut [u8]) {
     io::write_all(STDOUT_FILENO, b": number ");
     io::print_decimal(STDOUT_FILENO, a.number as u64);
     io::write_all(STDOUT_FILENO, b", count ");
-    io::print_decimal(STDOUT_FILENO, a.count as u64);
+    io::print_decimal(STDOUT_FILENO, a.tally.enabled as u64);
     io::write_all(STDOUT_FILENO, b"\n");
 }
 

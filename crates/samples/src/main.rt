@@ -33,13 +33,18 @@ fn says(name: &[u8], ok: bool) {
     }
 }
 
-// The write accepted with that count, and the picture as it should be.
-fn drawn(card: Card, w: Write, mut vram: [u8; 64], right: [u8; 64], count: u32) -> bool {
-    let a = engine::write(card, w, &mut vram);
+// The write accepted with that count.
+fn counted(card: Card, w: Write, vram: &mut [u8], count: u32) -> bool {
+    let a = engine::write(card, w, vram);
     if a.number != 0 {
         return false;
     }
-    if a.count != count {
+    a.tally.enabled == count
+}
+
+// And the picture as it should be.
+fn drawn(card: Card, w: Write, mut vram: [u8; 64], right: [u8; 64], count: u32) -> bool {
+    if !counted(card, w, &mut vram, count) {
         return false;
     }
     check::same(&vram, &right)
@@ -88,14 +93,19 @@ fn s4() -> bool {
     drawn(stipple(), frame(32, 0x80000001), [0u8; 64], right, 2)
 }
 
-// The number of a write that is refused, and so leaves 64 zeros.
-fn refused(card: Card, w: Write, number: u32) -> bool {
-    let mut vram = [0u8; 64];
-    let a = engine::write(card, w, &mut vram);
+// The write refused with that number, and no pixel counted.
+fn answers(card: Card, w: Write, vram: &mut [u8], number: u32) -> bool {
+    let a = engine::write(card, w, vram);
     if a.number != number {
         return false;
     }
-    if a.count != 0 {
+    a.tally.enabled == 0
+}
+
+// A write that is refused so leaves 64 zeros.
+fn refused(card: Card, w: Write, number: u32) -> bool {
+    let mut vram = [0u8; 64];
+    if !answers(card, w, &mut vram, number) {
         return false;
     }
     check::same(&vram, &[0u8; 64])
@@ -291,7 +301,7 @@ fn s10() -> bool {
     if source.number != 0 {
         return false;
     }
-    if source.count != 0 {
+    if source.tally.enabled != 0 {
         return false;
     }
     let card = source.card;

@@ -1,7 +1,9 @@
 -- How many of the first n pass a test. Assumes nothing.
-use mathlib.Core.Path.{_≡_, refl, ap₂}
+use mathlib.Core.Path.{_≡_, refl, ap, ap₂, _∙_}
 use mathlib.Core.Bool.{Bool, true, false}
 use Prim.Native.Nat.{ℕ, zero, suc, _+_, _≤_, _<_}
+use native.Mathlib.Decide.{ℕ-discrete}
+use native.Mathlib.Nat.{not-suc-le-zero}
 use native.Mathlib.Numerals.{add-one}
 use native.Mathlib.Omega.{arith}
 use Rattle.raster.specs.Pixel.{value}
@@ -29,3 +31,20 @@ pub counted-le : (n : ℕ) (f : ℕ → Bool) → counted n f ≤ n
 unfolding counted
 counted-le zero f = omega arith
 counted-le (suc n) f = omega (arith, counted-le n f, value-le (f n))
+
+-- counted in two parts
+pub counted-append : (k n : ℕ) (f : ℕ → Bool) → counted (k + n) f ≡ counted k f + counted n (λ j. f (k + j))
+unfolding counted
+counted-append k zero f = let e : k + 0 ≡ k = omega arith in rw e (omega arith)
+counted-append k (suc n) f = let e : k + suc n ≡ suc (k + n) = omega arith in rw e (omega (arith, counted-append k n f))
+
+-- where none is counted, none passes
+pub counted-zero : (n : ℕ) (f : ℕ → Bool) → counted n f ≡ 0 → (j : ℕ) → j < n → f j ≡ false
+unfolding counted
+counted-zero zero f e j h = absurd (not-suc-le-zero h)
+counted-zero (suc n) f e j h = go (ℕ-discrete j n) (f n) refl (λ q l. counted-zero n f q j l)
+  where
+    go : Dec (j ≡ n) → (b : Bool) → f n ≡ b → (counted n f ≡ 0 → j < n → f j ≡ false) → f j ≡ false
+    go d true q below = absurd (omega (arith, ap value q))
+    go (yes i) false q below = ap f i ∙ q
+    go (no i) false q below = below (omega arith) (omega arith)

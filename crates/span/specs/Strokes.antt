@@ -1,9 +1,13 @@
--- What the span routine draws: a pattern of 32 pixels that repeats. Every mode's span is one of these.
+-- What the span routine draws: a pattern of 32 pixels that repeats. Every mode's span is one of these, or two one after the other.
+use mathlib.Core.Path.{_≡_}
 use mathlib.Core.Bool.{Bool, cond}
-use Prim.Native.Nat.{ℕ, _+_, _%_}
-use lib.ListN.{getD}
+use mathlib.Core.List.{List}
+use Prim.Native.Nat.{ℕ, _+_, _-_, _%_, _<_, min}
+use lib.ListN.{length, getD}
 use Rattle.raster.specs.Pixel.{bit}
-use Rattle.span.specs.Fragments.{Fragment, stays, paint}
+use Rattle.span.specs.Fragments.{Fragment, stays, paint, drawn, before, from, counted}
+use Rattle.span.specs.Spans.{Span, pixel}
+use Rattle.span.specs.declared.Tally.{Tally}
 use Rattle.span.specs.declared.Strokes.{Strokes}
 
 -- pixel j of the span is drawn where bit j mod 32 of the word is set
@@ -13,3 +17,15 @@ enabled s j = bit (s .enable) (j % 32)
 -- it takes byte j mod 32 of the source, under the mask of its address mod 4; the span starts at an address that is `phase` mod 4
 abbrev pub stroke : Strokes → ℕ → Fragment
 stroke s j = cond (enabled s j) (paint (getD (s .mask) ((s .phase + j) % 4) 0) (getD (s .source) (j % 32) 0)) stays
+
+-- strokes s from address a on, as much of them as the picture v holds, gave answer r and left picture v′
+pub record Drew (s : Strokes) (a : ℕ) (v : List ℕ) (r : Tally) (v′ : List ℕ) : Type 0 where
+  pub shows : v′ ≡ drawn (s .op) (from a (before (s .width) (stroke s))) v
+  pub counts : r .enabled ≡ counted (min (s .width) (length v - a)) (enabled s)
+
+-- the strokes s are the pixels of the span p under the masks and under operation op
+pub record Draws (s : Strokes) (op : ℕ) (mask : ℕ → ℕ) (p : Span) : Type 0 where
+  pub under : s .op ≡ op
+  pub wide : s .width ≡ p .width
+  pub enables : (j : ℕ) → j < p .width → enabled s j ≡ p .on j
+  pub paints : (j : ℕ) → j < p .width → stroke s j ≡ pixel mask p j

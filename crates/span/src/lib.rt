@@ -6,7 +6,7 @@ ghost use Prim.Native.Nat.{min};
 ghost use lib.ListN.{length};
 ghost use Rattle.raster.specs.Pixel.{value};
 ghost use Rattle.span.specs.Fragments.{stays, paint, drawn, before, counted};
-ghost use Rattle.span.specs.Strokes.{stroke, enabled};
+ghost use Rattle.span.specs.Strokes.{stroke, enabled, Drew};
 ghost use Rattle.span.specs.Reduced.{keeps, flips, Digested};
 
 // A pattern of 32 pixels that repeats over `width` pixels: which are drawn, what each takes, under which mask.
@@ -17,6 +17,11 @@ pub struct Strokes {
     pub mask: [u8; 4],
     pub phase: u32,
     pub width: u32,
+}
+
+// What drawing answers: the number of pixels enabled.
+pub struct Tally {
+    pub enabled: u32,
 }
 
 // What one pixel of the pattern does: an old byte becomes (old & and) ^ xor, and `on` is added to the count.
@@ -81,9 +86,9 @@ fn shorter(width: u32, length: usize) -> usize
 }
 
 // Draws the span at the start of the part, or as much of it as the part holds, and counts the pixels enabled there.
-pub fn draw(part: &mut [u8], s: Strokes) -> u32
+fn draw(part: &mut [u8], s: Strokes) -> Tally
     ensures { λ r. ⌜ (now (part .exit) ≡ drawn (s .op) (before (s .width) (stroke s)) (now (part .entry)))
-        × (r ≡ counted (min (s .width) (length (now (part .entry)))) (enabled s)) ⌝ }
+        × (r .enabled ≡ counted (min (s .width) (length (now (part .entry)))) (enabled s)) ⌝ }
 {
     let t = digest(s);
     let end = shorter(s.width, part.len());
@@ -95,5 +100,15 @@ pub fn draw(part: &mut [u8], s: Strokes) -> u32
         count += t.on[k] as u32;
         j += 1;
     }
-    count
+    Tally { enabled: count }
+}
+
+// The same in the part of VRAM that starts at the span's first pixel; nothing where that lies past the end.
+pub fn draw_at(vram: &mut [u8], first: usize, s: Strokes) -> Tally
+    ensures { λ r. ⌜ Drew s first (now (vram .entry)) r (now (vram .exit)) ⌝ }
+{
+    if vram.len() < first {
+        return Tally { enabled: 0 };
+    }
+    draw(&mut vram[first..], s)
 }

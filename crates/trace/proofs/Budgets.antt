@@ -10,8 +10,8 @@ use lib.ListN.{length, drop}
 use borrow.Author.Tests.{eq-eqb, eqb-true}
 use Rattle.card.specs.declared.Card.{Card}
 use Rattle.card.specs.declared.Write.{Write}
-use Rattle.engine.specs.Refusal.{badLength}
-use Rattle.engine.specs.Writes.{count}
+use Rattle.rules.specs.Refusal.{badLength}
+use Rattle.rules.specs.Writes.{count}
 use Rattle.trace.specs.Traces.{entryCount, writes, wellFormed}
 use Rattle.trace.specs.Run.{State, nothing, answer, apply, refuse, ran, run, unread}
 use Rattle.trace.proofs.Tested.{formed}

@@ -10,7 +10,7 @@ use lib.ListN.{length, drop}
 use lib.Seq.{getD-drop}
 use borrow.Author.Tests.{ltb-false}
 use Rattle.card.specs.declared.Write.{Write}
-use Rattle.engine.specs.Refusal.{badLength}
+use Rattle.rules.specs.Refusal.{badLength}
 use Rattle.trace.specs.Bytes.{word, bytes}
 use Rattle.trace.specs.Traces.{largest, Delivered, header, entry, entries, encoded, writeAt, writesAt, paddedAt, entryCount, writes, wellFormed, isTrace, trace, decoded}
 use Rattle.trace.proofs.Bytes.{word-bytes, word-drop}

@@ -12,12 +12,12 @@ use Rattle.raster.specs.Pixel.{bit}
 use Rattle.card.specs.declared.Card.{Card}
 use Rattle.card.specs.declared.Write.{Write}
 use Rattle.card.specs.Reset.{resetCard}
-use Rattle.engine.specs.Refusal.{badLength, refusal}
-use Rattle.engine.specs.Writes.{picture}
-use Rattle.engine.specs.Sequences.{cardAfter, pictureAfter}
-use Rattle.engine.proofs.Counting.{count-bound}
-use Rattle.engine.proofs.Demand1.{answered}
-use Rattle.engine.proofs.Demand2.{held-through, held-chosen}
+use Rattle.rules.specs.Refusal.{badLength, refusal}
+use Rattle.rules.specs.Writes.{picture}
+use Rattle.rules.specs.Sequences.{cardAfter, pictureAfter}
+use Rattle.demands.proofs.Counting.{count-bound}
+use Rattle.demands.proofs.Demand1.{answered}
+use Rattle.demands.proofs.Demand2.{held-through, held-chosen}
 use Rattle.trace.specs.Traces.{largest, entryCount, writes, wellFormed}
 use Rattle.trace.specs.Run.{State, nothing, apply, refuse, ran, run, unread}
 use Rattle.trace.proofs.Tested.{Formed, formed}

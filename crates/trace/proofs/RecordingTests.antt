@@ -9,7 +9,7 @@ use lib.Dec.{eqb, ltb}
 use lib.ListN.{length, take}
 use borrow.Author.Tests.{eq-eqb, ne-eqb, lt-ltb, le-ltb, ltb-false, eqb-false, not-false}
 use Rattle.card.specs.declared.Write.{Write}
-use Rattle.engine.specs.Refusal.{badLength, badSpace}
+use Rattle.rules.specs.Refusal.{badLength, badSpace}
 use Rattle.trace.specs.Bytes.{word}
 use Rattle.trace.specs.Traces.{largest, isTrace}
 use Rattle.trace.specs.Recording.{startNumber, appendNumber}

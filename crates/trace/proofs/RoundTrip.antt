@@ -11,7 +11,7 @@ use lib.Seq.{take-at}
 use borrow.Author.Tests.{eq-eqb, ne-eqb}
 use Rattle.card.specs.declared.Card.{Card}
 use Rattle.card.specs.declared.Write.{Write}
-use Rattle.engine.specs.Refusal.{badLength}
+use Rattle.rules.specs.Refusal.{badLength}
 use Rattle.span.specs.Fragments.{Bytes}
 use Rattle.trace.specs.Bytes.{word}
 use Rattle.trace.specs.Traces.{largest, Delivered, encoded, writes, wellFormed, isTrace, malformed, trace, decoded, checkNumber, checkLength, checkPart}

@@ -9,8 +9,8 @@ use lib.ListN.{length}
 use borrow.Author.Tests.{eq-eqb, ne-eqb, eqb-true, eqb-false}
 use Rattle.card.specs.declared.Card.{Card}
 use Rattle.card.specs.declared.Write.{Write}
-use Rattle.engine.specs.Refusal.{badLength}
-use Rattle.engine.proofs.Demand1.{same-length}
+use Rattle.rules.specs.Refusal.{badLength}
+use Rattle.demands.proofs.Demand1.{same-length}
 use Rattle.trace.specs.Traces.{writes, wellFormed}
 use Rattle.trace.specs.Run.{State, nothing, answer, apply, refuse, ran, run}
 

@@ -5,8 +5,8 @@ use mathlib.Core.List.{List, [], _∷_}
 use Prim.Native.Nat.{ℕ}
 use Rattle.card.specs.declared.Write.{Write}
 use Rattle.span.specs.Fragments.{byte}
-use Rattle.engine.specs.Refusal.{badLength}
-use Rattle.engine.proofs.Samples.{S1, S2, S3, S4, S5, S6, S7, S8, S9, S10, S11, samples}
+use Rattle.rules.specs.Refusal.{badLength}
+use Rattle.rules.proofs.Samples.{S1, S2, S3, S4, S5, S6, S7, S8, S9, S10, S11, samples}
 use Rattle.trace.specs.Bytes.{word, bytes}
 use Rattle.trace.specs.Traces.{header, entry, entries, encoded, writeAt, writesAt, paddedAt, writes, wellFormed, isTrace, trace, decoded}
 

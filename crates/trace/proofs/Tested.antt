@@ -6,7 +6,7 @@ use Prim.Native.Nat.{ℕ, _+_, _*_, _/_, _%_, _≤_}
 use native.Mathlib.Omega.{arith}
 use lib.ListN.{length, drop, length-drop}
 use borrow.Author.Tests.{eqb-true, leb-true, not-true}
-use Rattle.engine.specs.Refusal.{badLength}
+use Rattle.rules.specs.Refusal.{badLength}
 use Rattle.trace.specs.Bytes.{word}
 use Rattle.trace.specs.Traces.{largest, entryCount, paddedAt, wellFormed, isTrace}
 

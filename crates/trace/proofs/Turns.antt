@@ -8,11 +8,11 @@ use lib.ListN.{length}
 use Rattle.card.specs.declared.Card.{Card}
 use Rattle.card.specs.declared.Write.{Write}
 use Rattle.engine.specs.declared.Answer.{Answer}
-use Rattle.engine.specs.Refusal.{badLength}
+use Rattle.rules.specs.Refusal.{badLength}
 use Rattle.engine.specs.Contract.{Written}
-use Rattle.engine.proofs.Counting.{count-bound}
-use Rattle.engine.proofs.Demand1.{same-length}
-use Rattle.engine.proofs.Outcome.{picture-refused}
+use Rattle.demands.proofs.Counting.{count-bound}
+use Rattle.demands.proofs.Demand1.{same-length}
+use Rattle.rules.proofs.Outcome.{picture-refused}
 use Rattle.trace.specs.Traces.{writeAt, writesAt, entryCount, writes, wellFormed}
 use Rattle.trace.specs.Run.{State, answer, apply, refuse, ran, run}
 use Rattle.trace.proofs.Runs.{ran-refused, ran-applied, run-good}
@@ -51,7 +51,7 @@ module _ (c : Card) (v : List ℕ) {w : Write} {r : Answer} {v′ : List ℕ} (d
   pub turn-length : length v′ ≡ length v
   turn-length = ap length (done .shows) ∙ same-length c w v
 
-  pub turn-pixels : (i pixels : ℕ) → pixels ≤ 2048 * i → pixels + r .count ≤ 2048 * (i + 1)
+  pub turn-pixels : (i pixels : ℕ) → pixels ≤ 2048 * i → pixels + r .tally .enabled ≤ 2048 * (i + 1)
   turn-pixels i pixels h = omega (arith, done .counts, count-bound c w (length v))
 
 module _ (part : List ℕ) (n budget i pixels : ℕ) (c : Card) (v : List ℕ) (more : i < n) (left : i < budget)
@@ -72,7 +72,7 @@ module _ (part : List ℕ) (n budget i pixels : ℕ) (c : Card) (v : List ℕ) (
       ∙ sym (begins ∙ ran-refused w _ _ (standing i pixels c v) refuses)
 
   pub turn-applied : r .number ≡ 0
-      → remaining part n budget (i + 1) (standing (i + 1) (pixels + r .count) (r .card) v′) ≡ remaining part n budget i (standing i pixels c v)
+      → remaining part n budget (i + 1) (standing (i + 1) (pixels + r .tally .enabled) (r .card) v′) ≡ remaining part n budget i (standing i pixels c v)
   unfolding apply
   turn-applied h =
       let next : 12 * (i + 1) ≡ 12 * i + 12 = omega arith in

@@ -6,10 +6,10 @@ use lib.Dec.{eqb}
 use lib.ListN.{length, drop}
 use Rattle.card.specs.declared.Card.{Card}
 use Rattle.card.specs.declared.Write.{Write}
-use Rattle.engine.specs.Refusal.{badLength, refusal}
-use Rattle.engine.specs.Writes.{count, next, picture}
+use Rattle.rules.specs.Refusal.{badLength, refusal}
+use Rattle.rules.specs.Writes.{count, next, picture}
 use Rattle.trace.specs.declared.Ran.{Ran}
-use Rattle.trace.specs.Traces.{writes, wellFormed}
+use Rattle.trace.specs.Traces.{entrySize, writes, wellFormed}
 
 -- where a run stands: the number, the entries applied, the total pixels, the card and the picture
 pub record State : Type 0 where
@@ -59,4 +59,4 @@ run part budget c v =
 
 -- the part after so many entries: after those applied, the unread part
 unfoldable pub unread : List ℕ → ℕ → List ℕ
-unread part applied = drop (12 * applied) part
+unread part applied = drop (entrySize * applied) part

@@ -4,6 +4,7 @@ ghost use Prim.Native.Nat.{_+_, _≤_};
 ghost use lib.ListN.{length};
 ghost use lib.Seq.{sets};
 ghost use Rattle.trace.specs.Traces.{entry, writeAt, wellFormed};
+use crate::ENTRY;
 use crate::LARGEST;
 use crate::words::put_bytes;
 use crate::words::put_word;
@@ -38,16 +39,16 @@ pub(crate) fn well_formed(part: &[u8]) -> bool
     ensures { λ r. ⌜ r ≡ wellFormed (now (part .entry)) ⌝ }
 {
     let n = part.len();
-    if n % 12 != 0 {
+    if n % ENTRY != 0 {
         return false;
     }
-    let count = n / 12;
+    let count = n / ENTRY;
     if LARGEST < count {
         return false;
     }
     let mut i: usize = 0;
     while i < count {
-        let at = 12 * i;
+        let at = ENTRY * i;
         if part[at + 2] != 0 {
             return false;
         }

@@ -4,10 +4,17 @@ ghost use Prim.Native.Nat.{_+_, _*_, _^_, _≤_, _<_};
 ghost use lib.ListN.{length};
 ghost use lib.Seq.{sets};
 ghost use Rattle.trace.specs.Traces.{header, isTrace};
+use crate::ENTRY;
+use crate::HEADER;
 use crate::entries::well_formed;
 use crate::words::put_word;
 use crate::words::word_at;
-use engine::refusal::bad_length;
+use rules::refusal::bad_length;
+
+// The same sizes as words of the header.
+const OFFSET: u32 = HEADER as u32;
+
+const STEP: u32 = ENTRY as u32;
 
 // The header of so many entries for a VRAM of `vram` bytes, stored at the front.
 pub(crate) fn put_header(b: &mut [u8], count: u32, vram: u32)
@@ -15,19 +22,19 @@ pub(crate) fn put_header(b: &mut [u8], count: u32, vram: u32)
     ensures { λ _. ⌜ now (b .exit) ≡ sets (now (b .entry)) 0 (header count vram) ⌝ }
 {
     put_word(b, 0, count);
-    put_word(b, 4, 16);
+    put_word(b, 4, OFFSET);
     put_word(b, 8, vram);
-    put_word(b, 12, 16 + 12 * count);
+    put_word(b, 12, OFFSET + STEP * count);
 }
 
 // The bytes are a trace.
 pub(crate) fn is_trace(b: &[u8]) -> bool
     ensures { λ r. ⌜ r ≡ isTrace (now (b .entry)) ⌝ }
 {
-    if b.len() < 16 {
+    if b.len() < HEADER {
         return false;
     }
-    if word_at(b, 4) != 16 {
+    if word_at(b, 4) != OFFSET {
         return false;
     }
     if bad_length(word_at(b, 8) as usize) {
@@ -35,11 +42,11 @@ pub(crate) fn is_trace(b: &[u8]) -> bool
     }
     let count = word_at(b, 0) as usize;
     let total = word_at(b, 12) as usize;
-    if total != 16 + 12 * count {
+    if total != HEADER + ENTRY * count {
         return false;
     }
     if b.len() != total {
         return false;
     }
-    well_formed(&b[16..])
+    well_formed(&b[HEADER..])
 }

@@ -15,6 +15,11 @@ pub use replay::run;
 pub use writing::append;
 pub use writing::start;
 
+// The sizes of the header and of an entry, in bytes.
+pub const HEADER: usize = 16;
+
+pub const ENTRY: usize = 12;
+
 // The largest number of entries.
 pub const LARGEST: usize = 4096;
 

@@ -2,6 +2,8 @@
 ghost use mathlib.Core.Path.{_≡_};
 ghost use Rattle.trace.specs.Traces.{checkNumber, checkLength, checkPart};
 ghost use Rattle.trace.specs.Run.{unread as unreadPart};
+use crate::ENTRY;
+use crate::HEADER;
 use crate::headers::is_trace;
 use crate::words::word_at;
 
@@ -15,7 +17,7 @@ pub fn check<'a>(bytes: &'a [u8], number: &mut u32, vram: &mut u32) -> &'a [u8]
     if is_trace(bytes) {
         *number = 0;
         *vram = word_at(bytes, 8);
-        &bytes[16..]
+        &bytes[HEADER..]
     } else {
         *number = 10;
         *vram = 0;
@@ -27,7 +29,7 @@ pub fn check<'a>(bytes: &'a [u8], number: &mut u32, vram: &mut u32) -> &'a [u8]
 pub fn unread(part: &[u8], applied: u32) -> &[u8]
     ensures { λ r. ⌜ now r ≡ unreadPart (now (part .entry)) applied ⌝ }
 {
-    let at = 12 * applied as usize;
+    let at = ENTRY * applied as usize;
     if part.len() < at {
         return &part[..0];
     }

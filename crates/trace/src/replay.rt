@@ -1,11 +1,12 @@
 // Running a part of a trace.
 ghost use mathlib.Core.Path.{_≡_};
 ghost use Rattle.trace.specs.Run.{run as runOf, outcomeOf};
+use crate::ENTRY;
 use crate::Ran;
 use crate::entries::well_formed;
 use crate::entries::write_at;
 use card::Card;
-use engine::refusal::bad_length;
+use rules::refusal::bad_length;
 
 // The entries of the part, one after the other, until the budget or the part ends or one is refused.
 pub fn run(part: &[u8], card: Card, vram: &mut [u8], budget: u32) -> Ran
@@ -27,7 +28,7 @@ pub fn run(part: &[u8], card: Card, vram: &mut [u8], budget: u32) -> Ran
             card,
         };
     }
-    let count = (part.len() / 12) as u32;
+    let count = (part.len() / ENTRY) as u32;
     let mut current = card;
     let mut applied: u32 = 0;
     let mut pixels: u32 = 0;
@@ -35,7 +36,7 @@ pub fn run(part: &[u8], card: Card, vram: &mut [u8], budget: u32) -> Ran
         if applied == budget {
             break;
         }
-        let w = write_at(part, 12 * applied as usize);
+        let w = write_at(part, ENTRY * applied as usize);
         let answer = engine::write(current, w, vram);
         let number = answer.number;
         if number != 0 {
@@ -47,7 +48,7 @@ pub fn run(part: &[u8], card: Card, vram: &mut [u8], budget: u32) -> Ran
             };
         }
         current = answer.card;
-        pixels += answer.count;
+        pixels += answer.tally.enabled;
         applied += 1;
     }
     Ran {

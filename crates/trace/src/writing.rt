@@ -2,6 +2,8 @@
 ghost use mathlib.Core.Path.{_≡_};
 ghost use lib.ListN.{length};
 ghost use Rattle.trace.specs.Recording.{startNumber, startLength, started, appendNumber, appendLength, appended};
+use crate::ENTRY;
+use crate::HEADER;
 use crate::LARGEST;
 use crate::Length;
 use crate::entries::put_entry;
@@ -9,8 +11,8 @@ use crate::headers::is_trace;
 use crate::headers::put_header;
 use crate::words::word_at;
 use card::Write;
-use engine::refusal::bad_length;
-use engine::refusal::bad_space;
+use rules::refusal::bad_length;
+use rules::refusal::bad_space;
 
 // The number of a start in a buffer of `size` bytes.
 fn start_number(size: usize, vram: u32) -> u32
@@ -19,7 +21,7 @@ fn start_number(size: usize, vram: u32) -> u32
     if bad_length(vram as usize) {
         return 1;
     }
-    if size < 16 {
+    if size < HEADER {
         return 11;
     }
     0
@@ -37,7 +39,10 @@ pub fn start(buffer: &mut [u8], vram: u32) -> Length
         return Length { number, length: 0 };
     }
     put_header(buffer, 0, vram);
-    Length { number, length: 16 }
+    Length {
+        number,
+        length: HEADER,
+    }
 }
 
 // The number of an append to the first `used` bytes.
@@ -53,7 +58,7 @@ fn append_number(buffer: &[u8], used: usize, w: Write) -> u32
     if bad_space(w) {
         return 2;
     }
-    if buffer.len() - used < 12 {
+    if buffer.len() - used < ENTRY {
         return 11;
     }
     let count = word_at(buffer, 0) as usize;
@@ -80,6 +85,6 @@ pub fn append(buffer: &mut [u8], used: usize, w: Write) -> Length
     put_entry(buffer, used, w);
     Length {
         number,
-        length: used + 12,
+        length: used + ENTRY,
     }
 }

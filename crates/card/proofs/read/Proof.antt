@@ -1,10 +1,11 @@
 -- `card::read` meets its contract: it goes by the table's row. Assumes nothing.
-use mathlib.Core.Path.{ap, sym, _∙_}
+use mathlib.Core.Path.{ap, ap₂, sym, _∙_}
 use Prim.Native.Nat.{ℕ}
+use lib.Bits.{bitAnd}
 use borrow.Author.Needs.{needs}
 use Rattle.card.specs.Registers.{holds}
-use Rattle.card.specs.declared.Row.{Row}
-use Rattle.card.proofs.Lookup.{reading-held, reading-missing}
+use Rattle.card.specs.declared.table.Row.{Row}
+use Rattle.card.proofs.Readings.{reading-held, reading-missing}
 use Rattle.card.proofs.read.Statement.{statement}
 use Rattle.card.proofs.read.Tie as tie
 
@@ -16,10 +17,11 @@ value-requires c κs = search needs
 
 returns : tie.Need-returns
 returns c =
-    let a = c .before .before .before .args in
-    let e = c .before .before .find .ensures in
-    ap (λ (n : ℕ). record { number = 0; value = n }) (c .value .ensures ∙ ap (λ (r : Row). holds (a .card) (r .register)) e)
-    ∙ reading-held (a .card) (a .offset) (sym (ap (λ (r : Row). r .readable) e) ∙ c .before .if1 .taken)
+    let a = c .before .before .before .before .args in
+    let e = c .before .before .before .find .ensures in
+    let held = c .before .value .ensures ∙ ap (λ (r : Row). holds (a .card) (r .register)) e in
+    ap₂ (λ (n k : ℕ). record { number = 0; value = bitAnd n k }) held (ap (λ (r : Row). r .kept) e)
+    ∙ reading-held (a .card) (a .offset) (sym (ap (λ (r : Row). r .readable) e) ∙ c .before .before .if1 .taken)
 
 returns-2 : tie.Need-returns-2
 returns-2 c =

@@ -1,6 +1,6 @@
 -- `card::store` meets its contract: each arm is the definition at that register. Assumes nothing.
-use borrow.Author.Needs.{needs}
 use Rattle.card.specs.Registers.{stores}
+use borrow.Author.Needs.{needs}
 use Rattle.card.proofs.store.Statement.{statement}
 use Rattle.card.proofs.store.Tie as tie
 
@@ -37,11 +37,11 @@ enum-known-register c = search needs
 cast-at : tie.Need-cast-at
 cast-at c = search needs
 
-mul-next : tie.Need-mul-next
-mul-next c = search needs
+mul-registers : tie.Need-mul-registers
+mul-registers c = search needs
 
-element-write-next : tie.Need-element-write-next
-element-write-next c = search needs
+element-write-registers : tie.Need-element-write-registers
+element-write-registers c = search needs
 
 enum-told-10 : tie.Need-enum-told-10
 enum-told-10 c = search needs
@@ -54,43 +54,43 @@ enum-told-12 c = search needs
 
 returns : tie.Need-returns
 unfolding stores
-returns c = rw (c .enum-told .given .1)
+returns c = rw (c .before .enum-told .given .1)
 
 returns-2 : tie.Need-returns-2
 unfolding stores
-returns-2 c = rw (c .enum-told2 .given .1)
+returns-2 c = rw (c .before .enum-told2 .given .1)
 
 returns-3 : tie.Need-returns-3
 unfolding stores
-returns-3 c = rw (c .enum-told3 .given .1)
+returns-3 c = rw (c .before .enum-told3 .given .1)
 
 returns-4 : tie.Need-returns-4
 unfolding stores
-returns-4 c = rw (c .enum-told4 .given .1)
+returns-4 c = rw (c .before .before .enum-told4 .given .1)
 
 returns-5 : tie.Need-returns-5
 unfolding stores
-returns-5 c = rw (c .enum-told5 .given .1)
+returns-5 c = rw (c .before .enum-told5 .given .1)
 
 returns-6 : tie.Need-returns-6
 unfolding stores
-returns-6 c = rw (c .enum-told6 .given .1)
+returns-6 c = rw (c .before .enum-told6 .given .1)
 
 returns-7 : tie.Need-returns-7
 unfolding stores
-returns-7 c = rw (c .enum-told7 .given .1)
+returns-7 c = rw (c .before .enum-told7 .given .1)
 
 returns-8 : tie.Need-returns-8
 unfolding stores
-returns-8 c = rw (c .enum-told8 .given .1)
+returns-8 c = rw (c .before .before .enum-told8 .given .1)
 
 returns-9 : tie.Need-returns-9
 unfolding stores
-returns-9 c = rw (c .enum-told9 .given .1)
+returns-9 c = rw (c .before .enum-told9 .given .1)
 
 returns-10 : tie.Need-returns-10
 unfolding stores
-returns-10 c = rw (c .before .register .given .1)
+returns-10 c = rw (c .before .before .register .given .1)
 
 returns-11 : tie.Need-returns-11
 unfolding stores
@@ -119,8 +119,8 @@ store-spec =
     enum-told-9
     enum-known-register
     cast-at
-    mul-next
-    element-write-next
+    mul-registers
+    element-write-registers
     enum-told-10
     enum-told-11
     enum-told-12

@@ -1,7 +1,7 @@
 -- `engine::read_back_number` meets its contract. Assumes nothing.
 use borrow.Author.Tests.{lt-ltb, le-ltb}
 use Rattle.engine.specs.ReadBack.{backNumber}
-use Rattle.engine.proofs.Tests.{said}
+use Rattle.rules.proofs.Tests.{said}
 use borrow.Author.Needs.{needs}
 use Rattle.engine.proofs.read_back_number.Statement.{statement}
 use Rattle.engine.proofs.read_back_number.Tie as tie

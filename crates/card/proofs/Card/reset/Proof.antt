@@ -1,4 +1,4 @@
--- `Card::reset` meets its contract: the constant is the table's column, with the held planes put in. Assumes nothing.
+-- `card::Card::reset` meets its contract: the constant is the column "At reset". Assumes nothing.
 use mathlib.Core.Path.{refl}
 use Rattle.card.specs.Registers.{rowAt, rowIn, table}
 use Rattle.card.specs.Reset.{resetCard}

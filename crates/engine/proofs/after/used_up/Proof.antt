@@ -1,12 +1,13 @@
 -- `engine::after::used_up` meets its contract. Assumes nothing.
+use borrow.Author.Tests.{eq-eqb, ne-eqb}
 use Rattle.engine.proofs.after.used_up.Statement.{statement}
 use Rattle.engine.proofs.after.used_up.Tie as tie
 
 returns : tie.Need-returns
-returns c = rw (c .if1 .taken)
+returns c = simp (eq-eqb _ _ (c .if1 .taken))
 
 returns-2 : tie.Need-returns-2
-returns-2 c = rw (c .if1 .left)
+returns-2 c = simp (ne-eqb _ _ (c .if1 .left))
 
 pub used-up-spec : {M : Type 1} → statement M
 used-up-spec = tie.close (tie.spec returns returns-2)

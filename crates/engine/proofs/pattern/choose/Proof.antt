@@ -19,9 +19,6 @@ Inv-loop pick phase on off start source₀ k₀ source k =
 abbrev μ-loop : tie.MeasureT-loop
 μ-loop pick phase on off start source₀ k₀ source k = 32 - k
 
-cast-start : tie.Need-cast-start Inv-loop μ-loop
-cast-start c = omega arith
-
 loop-holds : tie.Need-loop-holds Inv-loop μ-loop
 loop-holds c = (omega arith, listed-none _ _)
 
@@ -72,7 +69,6 @@ choose-spec =
     (tie.spec
     Inv-loop
     μ-loop
-    cast-start
     loop-holds
     add-t
     cast-either

@@ -1,16 +1,25 @@
 -- `engine::pattern::masks` meets its contract: the four bytes of the plane mask, the held planes cleared. Assumes nothing.
-use mathlib.Core.Path.{_≡_, _∙_}
-use mathlib.Core.Bool.{false, cond}
+use mathlib.Core.Path.{_≡_, ap, _∙_}
+use mathlib.Core.Bool.{Bool, false, cond}
 use Prim.Native.Nat.{ℕ, _%_}
 use native.Mathlib.Nat.{div-one}
 use native.Mathlib.Omega.{arith}
 use Rattle.raster.specs.Pixel.{bit, number}
+use Rattle.raster.proofs.Bits.{number-same}
+use Rattle.raster.proofs.Bitwise.{bit-low}
 use Rattle.span.specs.Fragments.{byte}
-use Rattle.engine.specs.Modes.{effective}
+use Rattle.rules.specs.Modes.{effectiveBy}
 use Rattle.engine.proofs.Arrays.{quarters}
 use borrow.Author.Needs.{needs}
 use Rattle.engine.proofs.pattern.masks.Statement.{statement}
 use Rattle.engine.proofs.pattern.masks.Tie as tie
+
+-- only bits 7:0 of the held planes count
+low : (h b : ℕ) → number 8 (λ k. cond (bit (h % 256) k) false (bit b k)) ≡ number 8 (λ k. cond (bit h k) false (bit b k))
+low h b = number-same 8 (λ k l. ap (λ (x : Bool). cond x false (bit b k)) (bit-low h k l))
+
+cast-h : tie.Need-cast-h
+cast-h c = search needs
 
 cast-cleared : tie.Need-cast-cleared
 cast-cleared c = search needs
@@ -37,15 +46,15 @@ cleared-requires-4 : tie.Need-cleared-requires-4
 cleared-requires-4 c κs = search needs
 
 returns : tie.Need-returns
-unfolding effective byte
+unfolding effectiveBy byte
 returns c =
-    let m = c .before .before .before .before .args .card in
+    let a = c .before .before .before .before .args in
     λ p.
-    quarters (λ t. number 8 (λ k. cond (bit (m .held) k) false (bit (byte (m .plane) t) k)))
-    (c .before .before .before .cleared .ensures ∙ simp div-one)
-    (c .before .before .cleared2 .ensures)
-    (c .before .cleared3 .ensures)
-    (c .cleared4 .ensures)
+    quarters (λ t. number 8 (λ k. cond (bit (a .held) k) false (bit (byte (a .plane) t) k)))
+    (c .before .before .before .cleared .ensures ∙ low (a .held) _ ∙ simp div-one)
+    (c .before .before .cleared2 .ensures ∙ low (a .held) _)
+    (c .before .cleared3 .ensures ∙ low (a .held) _)
+    (c .cleared4 .ensures ∙ low (a .held) _)
     (p % 4)
     (omega arith)
 
@@ -53,6 +62,7 @@ pub masks-spec : {M : Type 1} → statement M
 masks-spec =
     tie.close
     (tie.spec
+    cast-h
     cast-cleared
     cleared-requires
     cast-cleared-2

@@ -1,6 +1,6 @@
 -- `trace::headers::is_trace` meets its contract: the tests in their order. Assumes nothing.
 use mathlib.Core.Path.{ap, _∙_}
-use Rattle.engine.proofs.Tests.{said}
+use Rattle.rules.proofs.Tests.{said}
 use Rattle.trace.specs.Traces.{wellFormed}
 use Rattle.trace.proofs.Parts.{from-on}
 use Rattle.trace.proofs.HeaderTests.{no-header, bad-offset, bad-vram, bad-total, other-length, by-entries}

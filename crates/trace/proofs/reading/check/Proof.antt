@@ -4,7 +4,7 @@ use mathlib.Core.Bool.{true}
 use Prim.Native.Nat.{_≤_}
 use native.Mathlib.Omega.{arith}
 use lib.ListN.{length}
-use Rattle.engine.proofs.Tests.{said}
+use Rattle.rules.proofs.Tests.{said}
 use Rattle.trace.specs.Traces.{isTrace}
 use Rattle.trace.proofs.Parts.{from-on}
 use Rattle.trace.proofs.Tested.{traced}

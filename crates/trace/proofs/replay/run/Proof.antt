@@ -7,8 +7,8 @@ use native.Mathlib.Omega.{arith}
 use borrow.Author.Needs.{needs}
 use borrow.Author.Tests.{not-true, not-false}
 use lib.ListN.{length}
-use Rattle.engine.proofs.Tests.{said}
-use Rattle.engine.specs.Refusal.{badLength}
+use Rattle.rules.proofs.Tests.{said}
+use Rattle.rules.specs.Refusal.{badLength}
 use Rattle.trace.specs.Traces.{largest, entryCount, wellFormed}
 use Rattle.trace.specs.Run.{run}
 use Rattle.trace.proofs.Tested.{formed}

@@ -5,7 +5,7 @@ use Prim.Native.Nat.{_≤_}
 use lib.ListN.{length, take}
 use lib.Seq.{length-take-le}
 use borrow.Author.Tests.{not-true, not-false}
-use Rattle.engine.proofs.Tests.{said}
+use Rattle.rules.proofs.Tests.{said}
 use Rattle.trace.specs.Traces.{isTrace}
 use Rattle.trace.proofs.RecordingTests.{too-long, no-trace, bad-write, no-room, full, fits}
 use borrow.Author.Needs.{needs}

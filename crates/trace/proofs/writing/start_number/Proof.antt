@@ -1,5 +1,5 @@
 -- `trace::writing::start_number` meets its contract. Assumes nothing.
-use Rattle.engine.proofs.Tests.{said}
+use Rattle.rules.proofs.Tests.{said}
 use borrow.Author.Tests.{lt-ltb, le-ltb}
 use Rattle.trace.specs.Recording.{startNumber}
 use borrow.Author.Needs.{needs}

@@ -1,0 +1,182 @@
+-- Demand 3: drawing one write with a list of operations is drawing it once with their composite, for every card, picture and write,
+-- refused ones and register writes included; and the four operations that restore every picture. Assumes nothing.
+use mathlib.Core.Path.{_≡_, refl, ap, ap₂, sym, _∙_}
+use mathlib.Core.Bool.{Bool, true, false, cond, not, _&&_}
+use mathlib.Core.List.{List, [], _∷_, map}
+use Prim.Native.Nat.{ℕ, _+_, _*_, _/_, _%_, _<_, _≤_}
+use native.Mathlib.Decide.{decLt}
+use native.Mathlib.Omega.{arith}
+use lib.Dec.{T, eqb, ltb}
+use lib.ListN.{length}
+use borrow.Author.Tests.{lt-ltb, le-ltb}
+use Rattle.raster.specs.Pixel.{bit, number, result, composite, Operations, only, _then_, compositeOf}
+use Rattle.raster.specs.Operations.{restoring}
+use Rattle.raster.proofs.Composite.{result-low, result-composite}
+use Rattle.raster.proofs.Operations.{undoes-itself}
+use Rattle.span.specs.Fragments.{Fragment, Bytes}
+use Rattle.span.specs.Layers.{drawnAll, Apart}
+use Rattle.span.proofs.Layers.{drawnAll-op, drawnAll-composes, drawnAll-restores}
+use Rattle.card.specs.Registers.{code}
+use Rattle.card.specs.declared.Card.{Card}
+use Rattle.card.specs.declared.Write.{Write}
+use Rattle.span.specs.Spans.{Span, spanned}
+use Rattle.rules.specs.Modes.{modeOf, isBlock, effective, registerOf, frameSpan, spansOf}
+use Rattle.rules.specs.Refusal.{badLength, badSpace, badLanes, noRegister, badMode, badRaster, offBoundary, outside, unloaded, refusal}
+use Rattle.rules.specs.Writes.{accepted, count, layers, operation, picture}
+use Rattle.rules.specs.Sequences.{withOperation, drawnWith, drawnWithEach, EachDraw, obeys}
+use Rattle.rules.specs.declared.Mode.{Mode}
+use Rattle.rules.specs.declared.Mode.the-variants.{Simple, OpaqueStipple, TransparentStipple, OpaqueFill, TransparentFill, BlockStipple, BlockFill, Copy, Unlisted}
+use Rattle.demands.proofs.Demand1.{same-length}
+
+-- the span does not look at the raster operation
+frame-same : (a : ℕ) (c : Card) (w : Write) (m : Mode) → frameSpan m (withOperation a c) w ≡ frameSpan m c w
+unfolding frameSpan
+frame-same a c w Simple = refl
+frame-same a c w OpaqueStipple = refl
+frame-same a c w TransparentStipple = refl
+frame-same a c w OpaqueFill = refl
+frame-same a c w TransparentFill = refl
+frame-same a c w BlockStipple = refl
+frame-same a c w BlockFill = refl
+frame-same a c w Copy = refl
+frame-same a c w Unlisted = refl
+
+module _ (a : ℕ) (c : Card) (w : Write) where
+  spans-same : spansOf (withOperation a c) w ≡ spansOf c w
+  unfolding spansOf
+  spans-same = rw (frame-same a c w (modeOf (c .registers .mode)))
+
+  raster-same : ltb 15 (c .registers .raster / 16 * 16 + a % 16) ≡ ltb 15 (c .registers .raster)
+  raster-same = go (decLt 15 (c .registers .raster))
+    where
+      go : Dec (15 < c .registers .raster) → ltb 15 (c .registers .raster / 16 * 16 + a % 16) ≡ ltb 15 (c .registers .raster)
+      go (yes h) = lt-ltb 15 (c .registers .raster / 16 * 16 + a % 16) (omega arith) ∙ sym (lt-ltb 15 (c .registers .raster) h)
+      go (no h) = le-ltb 15 (c .registers .raster / 16 * 16 + a % 16) (omega arith) ∙ sym (le-ltb 15 (c .registers .raster) (omega arith))
+
+  -- number and count are those of the given card, whatever the operation
+  pub number-alike : (n : ℕ) → refusal (withOperation a c) w n ≡ refusal c w n
+  unfolding refusal badLanes badMode badRaster offBoundary outside unloaded
+  number-alike n = simp (raster-same, spans-same)
+
+  pub count-alike : (n : ℕ) → count (withOperation a c) w n ≡ count c w n
+  unfolding count
+  count-alike n = simp (number-alike n, spans-same)
+
+  layers-same : (n : ℕ) → layers (withOperation a c) w n ≡ layers c w n
+  unfolding layers
+  layers-same n = rw (number-alike n, spans-same)
+
+-- a frame write in a block mode
+abbrev blocky : Card → Write → Bool
+blocky c w = eqb (w .space) 0 && isBlock (modeOf (c .registers .mode))
+
+-- the register's bits 3:0 are the operation
+low-bits : (r a : ℕ) (s d : Bool) → result (r / 16 * 16 + a % 16) s d ≡ result a s d
+low-bits r a s d =
+    let e : (r / 16 * 16 + a % 16) % 16 ≡ a % 16 = omega arith in
+    sym (result-low (r / 16 * 16 + a % 16) s d) ∙ (ap (λ (n : ℕ). result n s d) e ∙ result-low a s d)
+
+-- one draw with a: a itself, or 3 in a block mode, of layers that do not know a
+picture-with : (a : ℕ) (c : Card) (w : Write) (v : List ℕ)
+    → drawnWith a c w v ≡ drawnAll (cond (blocky c w) 3 a) (layers c w (length v)) v
+unfolding picture operation
+picture-with a c w v =
+    ap (λ (fs : List (ℕ → Fragment)). drawnAll (cond (blocky c w) 3 (c .registers .raster / 16 * 16 + a % 16)) fs v) (layers-same a c w (length v))
+    ∙ go (blocky c w)
+  where
+    go : (b : Bool)
+        → drawnAll (cond b 3 (c .registers .raster / 16 * 16 + a % 16)) (layers c w (length v)) v ≡ drawnAll (cond b 3 a) (layers c w (length v)) v
+    go true = refl
+    go false = drawnAll-op _ a (layers c w (length v)) v (low-bits (c .registers .raster) a)
+
+-- two draws, on one picture after the other
+picture-twice : (a b : ℕ) (c : Card) (w : Write) (v : List ℕ)
+    → drawnWith b c w (drawnWith a c w v)
+    ≡ drawnAll (cond (blocky c w) 3 b) (layers c w (length v)) (drawnAll (cond (blocky c w) 3 a) (layers c w (length v)) v)
+picture-twice a b c w v =
+    picture-with b c w (drawnWith a c w v)
+    ∙ ap₂ (λ (n : ℕ) (u : List ℕ). drawnAll (cond (blocky c w) 3 b) (layers c w n) u) (same-length (withOperation a c) w v) (picture-with a c w v)
+
+-- drawing with a and then with b is drawing with their composite, where no pixel is drawn twice
+pub composes-two : (a b : ℕ) (c : Card) (w : Write) (v : List ℕ) → Apart (layers c w (length v))
+    → drawnWith b c w (drawnWith a c w v) ≡ drawnWith (composite a b) c w v
+unfolding composite result number bit
+composes-two a b c w v apart =
+    picture-twice a b c w v
+    ∙ (drawnAll-composes _ _ (layers c w (length v)) v apart
+    ∙ (ap (λ (o : ℕ). drawnAll o (layers c w (length v)) v) (go (blocky c w)) ∙ sym (picture-with (composite a b) c w v)))
+  where
+    go : (k : Bool) → composite (cond k 3 a) (cond k 3 b) ≡ cond k 3 (composite a b)
+    go true = refl
+    go false = refl
+
+-- the last picture equals that of one draw with the composite of the list: one claim about the whole list of draws
+pub composes-apart : (ops : Operations) (c : Card) (w : Write) (v : List ℕ) → Apart (layers c w (length v))
+    → drawnWithEach ops c w v ≡ drawnWith (compositeOf ops) c w v
+unfolding drawnWithEach compositeOf
+composes-apart (only a) c w v apart = refl
+composes-apart (ops then a) c w v apart =
+    ap (λ (u : List ℕ). drawnWith a c w u) (composes-apart ops c w v apart) ∙ composes-two (compositeOf ops) a c w v apart
+
+-- no write of today draws a pixel twice: it has one span, or none
+pub apart : (c : Card) (w : Write) (n : ℕ) → Apart (layers c w n)
+unfolding layers spansOf
+apart c w n =
+    go (accepted c w n) (spansOf c w)
+    (either (eqb (w .space) 1) _ _
+    (either (eqb (code (registerOf w)) 10) _ _ (omega arith) (either (eqb (code (registerOf w)) 11) _ [] (omega arith) (omega arith)))
+    (omega arith))
+  where
+    either : (b : Bool) (p q : List Span) → length p ≤ 1 → length q ≤ 1 → length (cond b p q) ≤ 1
+    either true p q hp hq = hp
+    either false p q hp hq = hq
+
+    go : (b : Bool) (ss : List Span) → length ss ≤ 1 → Apart (cond b (map (spanned (effective c)) ss) [])
+    go true [] h = tt
+    go true (s ∷ []) h = (tt, tt)
+    go true (s ∷ t ∷ ss) h = absurd (omega arith)
+    go false ss h = tt
+
+-- every picture on the way has the length of the first
+each-length : (ops : Operations) (c : Card) (w : Write) (v : List ℕ) → length (drawnWithEach ops c w v) ≡ length v
+unfolding drawnWithEach
+each-length (only a) c w v = same-length (withOperation a c) w v
+each-length (ops then a) c w v = same-length (withOperation a c) w (drawnWithEach ops c w v) ∙ each-length ops c w v
+
+-- the draw with a on picture u has the number and the count of the draw with b on picture v
+abbrev Alike : ℕ → Card → Write → List ℕ → ℕ → List ℕ → Type 0
+Alike b c w v a u =
+    (refusal (withOperation a c) w (length u) ≡ refusal (withOperation b c) w (length v))
+    × (count (withOperation a c) w (length u) ≡ count (withOperation b c) w (length v))
+
+one-alike : (a b : ℕ) (c : Card) (w : Write) (u v : List ℕ) → length u ≡ length v → Alike b c w v a u
+one-alike a b c w u v l = (
+  number-alike a c w (length u) ∙ (ap (λ (n : ℕ). refusal c w n) l ∙ sym (number-alike b c w (length v))),
+  count-alike a c w (length u) ∙ (ap (λ (n : ℕ). count c w n) l ∙ sym (count-alike b c w (length v))),
+)
+
+each-alike : (ops : Operations) (b : ℕ) (c : Card) (w : Write) (v : List ℕ) → EachDraw (Alike b c w v) ops c w v
+each-alike (only a) b c w v = one-alike a b c w v v refl
+each-alike (ops then a) b c w v = (each-alike ops b c w v, one-alike a b c w (drawnWithEach ops c w v) v (each-length ops c w v))
+
+-- Demand 3's equation, one claim about the whole list of draws, for every card, picture, write and non-empty list of operations: the last
+-- picture is that of one draw with the composite, and every draw, at the picture that it gets, has the number and the count of that draw
+pub record Composed (ops : Operations) (c : Card) (w : Write) (v : List ℕ) : Type 0 where
+  pub last : drawnWithEach ops c w v ≡ drawnWith (compositeOf ops) c w v
+  pub alike : EachDraw (Alike (compositeOf ops) c w v) ops c w v
+
+pub composes : (ops : Operations) (c : Card) (w : Write) (v : List ℕ) → Composed ops c w v
+composes ops c w v =
+    record { last = composes-apart ops c w v (apart c w (length v)); alike = each-alike ops (compositeOf ops) c w v }
+
+obeying : (k : Bool) → not k ≡ true → k ≡ false
+obeying true e = sym e
+obeying false e = refl
+
+-- the same draw made twice restores every picture, for 5, 6, 9 and 10
+pub restores : (op : ℕ) → op < 16 → T (restoring op) → (c : Card) (w : Write) (v : List ℕ) → Bytes v → obeys c w ≡ true
+    → drawnWith op c w (drawnWith op c w v) ≡ v
+restores op h t c w v bytes o =
+    picture-twice op op c w v
+    ∙ (ap (λ (b : Bool). drawnAll (cond b 3 op) (layers c w (length v)) (drawnAll (cond b 3 op) (layers c w (length v)) v)) (obeying (blocky c w) o)
+    ∙ drawnAll-restores op (layers c w (length v)) v (undoes-itself op h .1 t) bytes)

@@ -1,0 +1,8 @@
+-- The demands, as theorems over the definitions of `rules`.
+pub mod Counting
+pub mod Demand1
+pub mod Demand2
+pub mod Demand3
+pub mod Witness
+pub mod Quiet
+pub mod Caliper

@@ -1,0 +1,89 @@
+-- `engine::after::left` meets its contract: each arm is the definition at that effect. Assumes nothing.
+use Rattle.rules.specs.Plan.{left}
+use Rattle.rules.specs.Writes.{sourced}
+use borrow.Author.Needs.{needs}
+use Rattle.engine.proofs.after.left.Statement.{statement}
+use Rattle.engine.proofs.after.left.Tie as tie
+
+used-up-requires : tie.Need-used-up-requires
+used-up-requires c κs = search needs
+
+enum-told : tie.Need-enum-told
+enum-told c = search needs
+
+enum-told-2 : tie.Need-enum-told-2
+enum-told-2 c = search needs
+
+cast-read-32 : tie.Need-cast-read-32
+cast-read-32 c = search needs
+
+read-32-requires : tie.Need-read-32-requires
+read-32-requires c κs = rw (c .before .before .enum-told2 .given .1) at (c .before .before .before .before .before .before .pre)
+
+enum-told-3 : tie.Need-enum-told-3
+enum-told-3 c = search needs
+
+enum-known-effect : tie.Need-enum-known-effect
+enum-known-effect c = search needs
+
+store-requires : tie.Need-store-requires
+store-requires c κs = search needs
+
+enum-told-4 : tie.Need-enum-told-4
+enum-told-4 c = search needs
+
+cast-read-64 : tie.Need-cast-read-64
+cast-read-64 c = search needs
+
+read-64-requires : tie.Need-read-64-requires
+read-64-requires c κs = rw (c .before .enum-told4 .given .1) at (c .before .before .before .before .before .pre)
+
+enum-told-5 : tie.Need-enum-told-5
+enum-told-5 c = search needs
+
+returns : tie.Need-returns
+unfolding left
+returns c = rw (c .enum-told .given .1, c .before .before .used-up .ensures)
+
+returns-2 : tie.Need-returns-2
+unfolding left sourced
+returns-2 c = rw (c .before .before .before .enum-told2 .given .1, c .before .before .before .before .before .used-up .ensures, c .read-32 .ensures)
+
+returns-3 : tie.Need-returns-3
+unfolding left
+returns-3 c = rw (c .before .enum-told3 .given .1, c .before .before .before .used-up .ensures)
+
+returns-4 : tie.Need-returns-4
+unfolding left
+returns-4 c = rw (c .before .before .effect .given .1) (c .store .ensures)
+
+returns-5 : tie.Need-returns-5
+unfolding left
+returns-5 c = rw (c .before .before .enum-told4 .given .1, c .read-64 .ensures)
+
+returns-6 : tie.Need-returns-6
+unfolding left
+returns-6 c = rw (c .before .enum-told5 .given .1)
+
+pub left-spec : {M : Type 1} → statement M
+left-spec =
+    tie.close
+    (tie.spec
+    used-up-requires
+    enum-told
+    enum-told-2
+    cast-read-32
+    read-32-requires
+    enum-told-3
+    enum-known-effect
+    store-requires
+    enum-told-4
+    cast-read-64
+    read-64-requires
+    enum-told-5
+    returns
+    returns-2
+    returns-3
+    returns-4
+    returns-5
+    returns-6)

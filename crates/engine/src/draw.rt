@@ -1,0 +1,45 @@
+// What an accepted write draws.
+ghost use mathlib.Core.Path.{_≡_};
+ghost use mathlib.Core.Bool.{true};
+ghost use Prim.Native.Nat.{_+_, _≤_};
+ghost use lib.ListN.{length};
+ghost use Rattle.rules.specs.Plan.{isWhole};
+ghost use Rattle.engine.specs.Contract.{Drew};
+use crate::brush;
+use card::Card;
+use rules::plan::Paint;
+use rules::plan::Plan;
+use span::Tally;
+
+// The span of a plan. One of which no pixel is enabled is not gone through.
+pub(crate) fn planned(p: Plan, card: Card, vram: &mut [u8]) -> Tally
+    requires { ⌜ (p .first + p .width ≤ length (now vram)) × (isWhole (p .paint) ≡ true → p .width ≡ 64) ⌝ }
+    ensures { λ r. ⌜ Drew p card (now (vram .entry)) r (now (vram .exit)) ⌝ }
+{
+    if p.enable == 0 {
+        return Tally { enabled: 0 };
+    }
+    let paint = p.paint;
+    match paint {
+        Paint::Whole => halves(p, card, vram),
+        _ => {
+            let s = brush::strokes(p, card);
+            span::draw_at(vram, p.first, s)
+        }
+    }
+}
+
+// The whole copy buffer, in two halves.
+fn halves(p: Plan, card: Card, vram: &mut [u8]) -> Tally
+    requires { ⌜ (p .first + p .width ≤ length (now vram)) × (isWhole (p .paint) ≡ true) × (p .width ≡ 64) ⌝ }
+    ensures { λ r. ⌜ Drew p card (now (vram .entry)) r (now (vram .exit)) ⌝ }
+{
+    let first = p.first;
+    let low = brush::half_strokes(p, card, first, 0);
+    let high = brush::half_strokes(p, card, first, 32);
+    let lower = span::draw_at(vram, first, low);
+    let upper = span::draw_at(vram, first + 32, high);
+    Tally {
+        enabled: lower.enabled + upper.enabled,
+    }
+}

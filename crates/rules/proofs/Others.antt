@@ -1,0 +1,31 @@
+-- The registers that have no rule of their own, which a `match` takes together. Assumes nothing.
+use mathlib.Core.Path.{_≡_, refl}
+use mathlib.Core.Bool.{false}
+use mathlib.Core.List.{[], _∷_}
+use types.Run.{OneOf, miss}
+use denote.Enum.Declared.{tagOf}
+use Rattle.card.specs.Registers.{_is_}
+use Rattle.card.specs.declared.Register.{Register}
+use Rattle.card.specs.declared.Register.the-variants.{Foreground, Background, PlaneMask, PixelMaskOnce, Mode, RasterOperation, PixelShift, PixelMask, FillMask, BlockColour, CopySource, CopyDestination, Missing}
+use Rattle.card.proofs.Register as R
+
+abbrev Plain : Register → Type 0
+Plain g =
+    (g is Mode ≡ false) × (g is RasterOperation ≡ false) × (g is PixelShift ≡ false) × (g is CopySource ≡ false)
+    × (g is CopyDestination ≡ false) × (g is Missing ≡ false)
+
+-- one of the tags of the others
+pub plain : (g : Register) → OneOf (0 ∷ 1 ∷ 2 ∷ 3 ∷ 7 ∷ 8 ∷ 9 ∷ []) (tagOf R.the-type g) → Plain g
+plain Foreground k = (refl, refl, refl, refl, refl, refl)
+plain Background k = (refl, refl, refl, refl, refl, refl)
+plain PlaneMask k = (refl, refl, refl, refl, refl, refl)
+plain PixelMaskOnce k = (refl, refl, refl, refl, refl, refl)
+plain Mode k = absurd (miss (0 ∷ 1 ∷ 2 ∷ 3 ∷ 7 ∷ 8 ∷ 9 ∷ []) 4 tt k)
+plain RasterOperation k = absurd (miss (0 ∷ 1 ∷ 2 ∷ 3 ∷ 7 ∷ 8 ∷ 9 ∷ []) 5 tt k)
+plain PixelShift k = absurd (miss (0 ∷ 1 ∷ 2 ∷ 3 ∷ 7 ∷ 8 ∷ 9 ∷ []) 6 tt k)
+plain PixelMask k = (refl, refl, refl, refl, refl, refl)
+plain FillMask k = (refl, refl, refl, refl, refl, refl)
+plain (BlockColour n) k = (refl, refl, refl, refl, refl, refl)
+plain CopySource k = absurd (miss (0 ∷ 1 ∷ 2 ∷ 3 ∷ 7 ∷ 8 ∷ 9 ∷ []) 10 tt k)
+plain CopyDestination k = absurd (miss (0 ∷ 1 ∷ 2 ∷ 3 ∷ 7 ∷ 8 ∷ 9 ∷ []) 11 tt k)
+plain Missing k = absurd (miss (0 ∷ 1 ∷ 2 ∷ 3 ∷ 7 ∷ 8 ∷ 9 ∷ []) 12 tt k)

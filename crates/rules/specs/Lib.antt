@@ -1,0 +1,6 @@
+-- What a write means: scope paper, "Numbers returned", "How one pixel is made" and "Modes".
+pub mod Modes
+pub mod Refusal
+pub mod Writes
+pub mod Sequences
+pub mod Plan

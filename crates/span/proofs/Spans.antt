@@ -1,0 +1,175 @@
+-- The laws of spans: what one does at each address, one cut in two, and the strokes that draw it. Assumes nothing.
+use mathlib.Core.Path.{_≡_, refl, ap, ap₂, sym, _∙_}
+use mathlib.Core.Bool.{Bool, false, cond}
+use mathlib.Core.List.{List, _++_, append-nil}
+use Prim.Native.Nat.{ℕ, _+_, _-_, _%_, _<_, _≤_, min}
+use native.Mathlib.Decide.{decLt}
+use native.Mathlib.Omega.{arith}
+use lib.ListN.{length, getD, take, drop, length-take, length-drop, drop-of-length-le}
+use lib.Seq.{take-all}
+use borrow.Rule.Slice.PartMut.{putMid}
+use Rattle.raster.specs.Pixel.{bit}
+use Rattle.span.specs.Fragments.{Fragment, stays, paint, painted, drawn, before, from, counted}
+use Rattle.span.specs.Spans.{Span, pixel, spanned, enabledIn, piece}
+use Rattle.span.specs.Strokes.{stroke, enabled, Drew, Draws}
+use Rattle.span.specs.declared.Strokes.{Strokes}
+use Rattle.span.specs.declared.Tally.{Tally}
+use Rattle.span.proofs.Counted.{counted-same, counted-append}
+use Rattle.span.proofs.Drawn.{drawn-same, drawn-is, drawn-at, drawn-length, drawn-from}
+use Rattle.span.proofs.Painted.{before-below, before-past, from-below, from-past}
+
+module _ (mask : ℕ → ℕ) (s : Span) where
+  -- what a span does at an address before it, in it and past it
+  pub spanned-before : (p : ℕ) → p < s .first → spanned mask s p ≡ stays
+  unfolding spanned
+  spanned-before p h = from-below (s .first) _ h
+
+  pub spanned-in : (p j : ℕ) → p ≡ s .first + j → j < s .width → spanned mask s p ≡ pixel mask s j
+  unfolding spanned
+  spanned-in p j e h =
+      let k : p - s .first ≡ j = omega arith in
+      from-past (s .first) _ (omega arith)
+      ∙ (ap (λ (i : ℕ). before (s .width) (pixel mask s) i) k ∙ before-below (s .width) (pixel mask s) h)
+
+  pub spanned-past : (p : ℕ) → s .first + s .width ≤ p → spanned mask s p ≡ stays
+  unfolding spanned
+  spanned-past p h = from-past (s .first) _ (omega arith) ∙ before-past (s .width) (pixel mask s) (omega arith)
+
+  -- a span none of whose pixels is enabled does nothing
+  pub spanned-off : ((j : ℕ) → j < s .width → s .on j ≡ false) → (p : ℕ) → spanned mask s p ≡ stays
+  spanned-off e p = go (decLt p (s .first)) (decLt p (s .first + s .width))
+    where
+      go : Dec (p < s .first) → Dec (p < s .first + s .width) → spanned mask s p ≡ stays
+      go (yes h) k = spanned-before p h
+      go (no h) (yes k) = spanned-in p (p - s .first) (omega arith) (omega arith) ∙ rw (e (p - s .first) (omega arith))
+      go (no h) (no k) = spanned-past p (omega arith)
+
+-- spans that agree pixel by pixel do the same at each address
+pub spanned-same : (mask : ℕ → ℕ) (s t : Span) → s .first ≡ t .first → s .width ≡ t .width → ((j : ℕ) → j < t .width → s .on j ≡ t .on j)
+    → ((j : ℕ) → j < t .width → s .takes j ≡ t .takes j) → (p : ℕ) → spanned mask s p ≡ spanned mask t p
+spanned-same mask s t ef ew eo et p = go (decLt p (t .first)) (decLt p (t .first + t .width))
+  where
+    at : (j : ℕ) → j < t .width → pixel mask s j ≡ pixel mask t j
+    at j h =
+        ap₂ (λ (b : Bool) (x : ℕ). cond b (paint (mask (s .first + j)) x) stays) (eo j h) (et j h)
+        ∙ ap (λ (a : ℕ). cond (t .on j) (paint (mask (a + j)) (t .takes j)) stays) ef
+
+    go : Dec (p < t .first) → Dec (p < t .first + t .width) → spanned mask s p ≡ spanned mask t p
+    go (yes h) k = spanned-before mask s p (omega arith) ∙ sym (spanned-before mask t p h)
+    go (no h) (yes k) =
+        spanned-in mask s p (p - t .first) (omega arith) (omega arith)
+        ∙ (at (p - t .first) (omega arith) ∙ sym (spanned-in mask t p (p - t .first) (omega arith) (omega arith)))
+    go (no h) (no k) = spanned-past mask s p (omega arith) ∙ sym (spanned-past mask t p (omega arith))
+
+-- a piece of a span does what the span does there
+piece-in : (mask : ℕ → ℕ) (s : Span) (k n i : ℕ) → k + n ≤ s .width → s .first + k ≤ i → i < s .first + k + n → spanned mask (piece k n s) i ≡ spanned mask s i
+piece-in mask s k n i fits h l =
+    spanned-in mask (piece k n s) i (i - (s .first + k)) (omega arith) (omega arith)
+    ∙ (same (omega arith) (omega arith) ∙ sym (spanned-in mask s i (i - s .first) (omega arith) (omega arith)))
+  where
+    same : s .first + k + (i - (s .first + k)) ≡ s .first + (i - s .first) → k + (i - (s .first + k)) ≡ i - s .first
+        → pixel mask (piece k n s) (i - (s .first + k)) ≡ pixel mask s (i - s .first)
+    same p q = ap₂ (λ (a j : ℕ). cond (s .on j) (paint (mask a) (s .takes j)) stays) p q
+
+module _ (op : ℕ) (mask : ℕ → ℕ) (s : Span) (k n : ℕ) (e : k + n ≡ s .width) where
+  -- its first k pixels and then the rest are the whole
+  pub cut-shows : (v : List ℕ) → drawn op (spanned mask (piece k n s)) (drawn op (spanned mask (piece 0 k s)) v) ≡ drawn op (spanned mask s) v
+  cut-shows v =
+      drawn-is op (spanned mask s) v _
+      (drawn-length op (spanned mask (piece k n s)) _ ∙ drawn-length op (spanned mask (piece 0 k s)) v)
+      (λ i h.
+      drawn-at op (spanned mask (piece k n s)) _ i (rw (drawn-length op (spanned mask (piece 0 k s)) v) h)
+      ∙ (ap (λ (x : ℕ). painted op (spanned mask (piece k n s) i) x) (drawn-at op (spanned mask (piece 0 k s)) v i h)
+      ∙ each i (getD v i 0) (decLt i (s .first)) (decLt i (s .first + k)) (decLt i (s .first + s .width))))
+    where
+      join : (i x : ℕ) {f g h : Fragment} → spanned mask (piece k n s) i ≡ g → spanned mask (piece 0 k s) i ≡ f → spanned mask s i ≡ h
+          → painted op g (painted op f x) ≡ painted op h x
+          → painted op (spanned mask (piece k n s) i) (painted op (spanned mask (piece 0 k s) i) x) ≡ painted op (spanned mask s i) x
+      join i x eg ef eh p = rw (eg, ef, eh) p
+
+      each : (i x : ℕ) → Dec (i < s .first) → Dec (i < s .first + k) → Dec (i < s .first + s .width)
+          → painted op (spanned mask (piece k n s) i) (painted op (spanned mask (piece 0 k s) i) x) ≡ painted op (spanned mask s i) x
+      each i x (yes h) l m =
+          join i x (spanned-before mask (piece k n s) i (omega arith)) (spanned-before mask (piece 0 k s) i (omega arith)) (spanned-before mask s i h) refl
+      each i x (no h) (yes l) m =
+          join i x (spanned-before mask (piece k n s) i l) (piece-in mask s 0 k i (omega arith) (omega arith) (omega arith)) refl refl
+      each i x (no h) (no l) (yes m) =
+          join i x (piece-in mask s k n i (omega arith) (omega arith) (omega arith)) (spanned-past mask (piece 0 k s) i (omega arith)) refl refl
+      each i x (no h) (no l) (no m) =
+          join i x (spanned-past mask (piece k n s) i (omega arith)) (spanned-past mask (piece 0 k s) i (omega arith))
+          (spanned-past mask s i (omega arith)) refl
+
+  pub cut-counts : enabledIn (piece 0 k s) + enabledIn (piece k n s) ≡ enabledIn s
+  cut-counts =
+      let z : (j : ℕ) → 0 + j ≡ j = λ j. omega arith in
+      ap (λ (a : ℕ). a + enabledIn (piece k n s)) (counted-same k (λ j h. ap (s .on) (z j)))
+      ∙ (sym (counted-append k n (s .on)) ∙ ap (λ (a : ℕ). counted a (s .on)) e)
+
+by-four : (phase first j : ℕ) → phase ≡ first % 4 → (phase + j) % 4 ≡ (first + j) % 4
+by-four phase first j h = omega arith
+
+-- strokes whose word, bytes and masks are those of a span draw it
+pub draws : (s : Strokes) (op : ℕ) (mask : ℕ → ℕ) (p : Span) → s .op ≡ op → s .width ≡ p .width → s .phase ≡ p .first % 4
+    → ((a : ℕ) → getD (s .mask) (a % 4) 0 ≡ mask a)
+    → ((j : ℕ) → j < p .width → bit (s .enable) (j % 32) ≡ p .on j)
+    → ((j : ℕ) → j < p .width → getD (s .source) (j % 32) 0 ≡ p .takes j)
+    → Draws s op mask p
+draws s op mask p eo ew ep em ee et =
+    record {
+      under = eo;
+      wide = ew;
+      enables = ee;
+      paints = λ j h.
+          ap₂ (λ (b : Bool) (x : Fragment). cond b x stays) (ee j h)
+          (ap₂ (λ (m t : ℕ). paint m t)
+          (ap (λ (l : ℕ). getD (s .mask) l 0) (by-four (s .phase) (p .first) j ep) ∙ em (p .first + j))
+          (et j h));
+    }
+
+module _ (s : Strokes) (op : ℕ) (mask : ℕ → ℕ) (p : Span) (d : Draws s op mask p) where
+  inside : (j : ℕ) → before (s .width) (stroke s) j ≡ before (p .width) (pixel mask p) j
+  inside j = go (decLt j (p .width))
+    where
+      go : Dec (j < p .width) → before (s .width) (stroke s) j ≡ before (p .width) (pixel mask p) j
+      go (yes h) =
+          before-below (s .width) (stroke s) (rw (d .wide) h) ∙ (d .paints j h ∙ sym (before-below (p .width) (pixel mask p) h))
+      go (no h) = before-past (s .width) (stroke s) (rw (d .wide) (omega arith)) ∙ sym (before-past (p .width) (pixel mask p) (omega arith))
+
+  -- the picture that they leave
+  pub draws-picture : (v : List ℕ) → drawn (s .op) (from (p .first) (before (s .width) (stroke s))) v ≡ drawn op (spanned mask p) v
+  unfolding spanned
+  draws-picture v =
+      ap (λ (o : ℕ). drawn o (from (p .first) (before (s .width) (stroke s))) v) (d .under)
+      ∙ drawn-same op v (λ a _. at a (decLt a (p .first)))
+    where
+      at : (a : ℕ) → Dec (a < p .first)
+          → from (p .first) (before (s .width) (stroke s)) a ≡ from (p .first) (before (p .width) (pixel mask p)) a
+      at a (yes h) = from-below (p .first) _ h ∙ sym (from-below (p .first) _ h)
+      at a (no h) =
+          from-past (p .first) _ (omega arith) ∙ (inside (a - p .first) ∙ sym (from-past (p .first) _ (omega arith)))
+
+  -- and the pixels that they count, where the span lies inside
+  pub draws-count : (n : ℕ) → p .first + p .width ≤ n → counted (min (s .width) (n - p .first)) (enabled s) ≡ enabledIn p
+  draws-count n h =
+      let e : min (s .width) (n - p .first) ≡ p .width = omega (arith, d .wide) in
+      ap (λ (k : ℕ). counted k (enabled s)) e ∙ counted-same (p .width) (d .enables)
+
+-- what the routine answers of strokes that draw a span inside the picture
+pub drew : (s : Strokes) (op : ℕ) (mask : ℕ → ℕ) (p : Span) → Draws s op mask p → (a : ℕ) (v : List ℕ) {r : Tally} {v′ : List ℕ} → Drew s a v r v′ → a ≡ p .first
+    → p .first + p .width ≤ length v → (v′ ≡ drawn op (spanned mask p) v) × (r .enabled ≡ enabledIn p)
+drew s op mask p d a v e at h = (
+  e .shows ∙ (ap (λ (n : ℕ). drawn (s .op) (from n (before (s .width) (stroke s))) v) at ∙ draws-picture s op mask p d v),
+  e .counts ∙ (ap (λ (n : ℕ). counted (min (s .width) (length v - n)) (enabled s)) at ∙ draws-count s op mask p d (length v) h),
+)
+
+-- a part from a on, drawn and put back, is the whole drawn from a on
+pub put-drawn : (op a : ℕ) (f : ℕ → Fragment) (v ys : List ℕ) → a ≤ length v → ys ≡ drawn op f (take (length v - a) (drop a v))
+    → putMid a (length v - a) v ys ≡ drawn op (from a f) v
+put-drawn op a f v ys h e =
+    let k : length (drop a v) ≤ length v - a = simp length-drop (omega arith) in
+    ap (λ (t : List ℕ). take a v ++ (ys ++ t)) (drop-of-length-le (drop a v) k)
+    ∙ (ap (λ (t : List ℕ). take a v ++ t) (append-nil ys ∙ (e ∙ ap (λ (t : List ℕ). drawn op f t) (take-all _ (drop a v) k)))
+    ∙ drawn-from op a f v h)
+
+pub part-length : (a : ℕ) (v : List ℕ) → a ≤ length v → length (take (length v - a) (drop a v)) ≡ length v - a
+part-length a v h = simp (length-take, length-drop) (omega arith)
