@@ -68,6 +68,7 @@ int main(void) {
         card = saved; /* or the second bar would have no mask, and ten pixels of it would stay */
         struct zevkholtai_ran r = zevkholtai_run(&card, trace + 16, used - 16, vram, SIZE, 4096);
         promised(r.number == 0 && r.entries == 22 && r.pixels == 56 && r.rest == used - 16, "a whole run");
+        promised(card.mask.marked == 0 && card.mask.bits == 0xFFFFFFFF, "a one-shot mask, used up");
         int n = differing(vram, filled);
         promised(n == (turn == 0 ? 56 : 0), "a caliper");
         printf("caliper %s: %d pixels differ from the fill\n", turn == 0 ? "drawn" : "taken off", n);

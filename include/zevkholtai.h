@@ -2,7 +2,8 @@
  *
  * The host keeps the card and its video memory (VRAM) and lends them to each call; the library keeps nothing, allocates
  * nothing and makes no system call. The caller sees to this: a pointer is valid for the length beside it, and not null
- * also where that is 0; the places lent to one call do not overlap; a bool is 0 or 1. All else is promised for every input.
+ * also where that is 0; the places lent to one call do not overlap. All else is promised for every input: every pattern of
+ * bytes is a card.
  *
  * Every answer has a number, the lowest that applies, but 10 comes before all others:
  *
@@ -12,7 +13,8 @@
  *    3  lanes are not 15, on a register write or in any mode but simple
  *    4  no such register
  *    5  a mode that is not listed, written or in the card handed in
- *    6  a raster operation with any of bits 11:8 or a pixel shift with any of bits 3:0 set; a card with such an operation
+ *    6  a raster operation written with any of bits 11:8 set, or a pixel shift with any of bits 3:0; a card whose operation
+ *       is over 15
  *    7  an address off its boundary
  *    8  a pixel of the span, masked or not, lies outside VRAM
  *    9  a 64-byte destination write with no 64-byte source loaded
@@ -27,7 +29,6 @@
 #ifndef ZEVKHOLTAI_H
 #define ZEVKHOLTAI_H
 
-#include <stdbool.h>
 #include <stddef.h>
 #include <stdint.h>
 
@@ -35,21 +36,34 @@
 extern "C" {
 #endif
 
-/* The whole state: 128 bytes, no padding. */
-struct zevkholtai_card {
+struct zevkholtai_registers {
     uint32_t foreground;
     uint32_t background;
-    uint32_t plane;     /* plane mask */
-    uint32_t pixel;     /* pixel mask */
+    uint32_t plane;    /* plane mask */
     uint32_t mode;
-    uint32_t raster;    /* raster operation, bits 3:0 */
-    uint32_t fill;      /* fill mask: the data register */
-    uint32_t block[8];  /* block colours */
-    uint8_t buffer[64]; /* copy buffer */
-    bool marked;        /* the pixel mask is one-shot */
-    bool loaded;        /* the buffer holds a 64-byte source */
-    bool writing;       /* the next copy write draws its destination */
-    uint8_t held;       /* held planes, which no write can change */
+    uint32_t raster;   /* raster operation, bits 3:0 */
+    uint32_t fill;     /* fill mask: the data register */
+    uint32_t block[8]; /* block colours */
+};
+
+/* A mark, here and below, is set where it is not 0; the library stores 0 or 1. */
+struct zevkholtai_mask {
+    uint32_t bits;   /* pixel mask */
+    uint32_t marked; /* it is one-shot */
+};
+
+struct zevkholtai_copier {
+    uint8_t buffer[64];
+    uint32_t loaded;  /* the buffer holds a 64-byte source */
+    uint32_t writing; /* the next copy write draws its destination */
+};
+
+/* The whole state: 140 bytes, no padding. */
+struct zevkholtai_card {
+    struct zevkholtai_registers registers;
+    struct zevkholtai_mask mask;
+    struct zevkholtai_copier copier;
+    uint32_t held; /* held planes, bits 7:0, which no write can change */
 };
 
 struct zevkholtai_answer {
@@ -105,24 +119,26 @@ struct zevkholtai_ran zevkholtai_run(struct zevkholtai_card *card, const uint8_t
 #endif
 
 #define ZEVKHOLTAI_AT(field, offset) ZEVKHOLTAI_HOLDS(offsetof(struct zevkholtai_card, field) == (offset))
-ZEVKHOLTAI_HOLDS(sizeof(bool) == 1);
-ZEVKHOLTAI_HOLDS(sizeof(struct zevkholtai_card) == 128);
+ZEVKHOLTAI_HOLDS(sizeof(struct zevkholtai_registers) == 56);
+ZEVKHOLTAI_HOLDS(sizeof(struct zevkholtai_mask) == 8);
+ZEVKHOLTAI_HOLDS(sizeof(struct zevkholtai_copier) == 72);
+ZEVKHOLTAI_HOLDS(sizeof(struct zevkholtai_card) == 140);
 ZEVKHOLTAI_HOLDS(sizeof(struct zevkholtai_answer) == 8);
 ZEVKHOLTAI_HOLDS(sizeof(struct zevkholtai_checked) == 8);
 ZEVKHOLTAI_HOLDS(sizeof(struct zevkholtai_ran) == 16);
-ZEVKHOLTAI_AT(foreground, 0);
-ZEVKHOLTAI_AT(background, 4);
-ZEVKHOLTAI_AT(plane, 8);
-ZEVKHOLTAI_AT(pixel, 12);
-ZEVKHOLTAI_AT(mode, 16);
-ZEVKHOLTAI_AT(raster, 20);
-ZEVKHOLTAI_AT(fill, 24);
-ZEVKHOLTAI_AT(block, 28);
-ZEVKHOLTAI_AT(buffer, 60);
-ZEVKHOLTAI_AT(marked, 124);
-ZEVKHOLTAI_AT(loaded, 125);
-ZEVKHOLTAI_AT(writing, 126);
-ZEVKHOLTAI_AT(held, 127);
+ZEVKHOLTAI_AT(registers.foreground, 0);
+ZEVKHOLTAI_AT(registers.background, 4);
+ZEVKHOLTAI_AT(registers.plane, 8);
+ZEVKHOLTAI_AT(registers.mode, 12);
+ZEVKHOLTAI_AT(registers.raster, 16);
+ZEVKHOLTAI_AT(registers.fill, 20);
+ZEVKHOLTAI_AT(registers.block, 24);
+ZEVKHOLTAI_AT(mask.bits, 56);
+ZEVKHOLTAI_AT(mask.marked, 60);
+ZEVKHOLTAI_AT(copier.buffer, 64);
+ZEVKHOLTAI_AT(copier.loaded, 128);
+ZEVKHOLTAI_AT(copier.writing, 132);
+ZEVKHOLTAI_AT(held, 136);
 #undef ZEVKHOLTAI_AT
 #undef ZEVKHOLTAI_HOLDS
 

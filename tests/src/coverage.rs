@@ -11,18 +11,23 @@ const OTHER_SPACE: usize = OTHER_REGISTER + 1;
 const ROWS: usize = OTHER_SPACE + 1;
 
 /// Situations that the paper's easy slips are about.
-const SITUATIONS: [&str; 6] = [
+const SITUATIONS: [&str; 11] = [
     "one-shot mask, accepted frame write",
     "one-shot mask, refused frame write",
     "copy, source read",
     "copy, destination drawn",
     "64-byte destination drawn in a block mode",
     "pixels drawn with held planes",
+    "pixels drawn with held bits above 7",
+    "one-shot mark over 1, accepted frame write",
+    "copy mark over 1, destination drawn",
+    "64-byte mark over 1, destination drawn",
+    "any mark over 1, refused",
 ];
 
 pub struct Coverage {
     writes: [[u64; 10]; ROWS],
-    situations: [u64; 6],
+    situations: [u64; SITUATIONS.len()],
 }
 
 fn row(card: &Card, write: Write) -> usize {
@@ -49,7 +54,7 @@ impl Coverage {
     pub fn new() -> Coverage {
         Coverage {
             writes: [[0; 10]; ROWS],
-            situations: [0; 6],
+            situations: [0; SITUATIONS.len()],
         }
     }
 
@@ -61,12 +66,17 @@ impl Coverage {
         let copy = frame && card.mode == mode::COPY && number == 0;
         let destination = write.space == REGISTER && write.address == 0x0164 && number == 0;
         let met = [
-            frame && card.marked && number == 0,
-            frame && card.marked && number != 0,
-            copy && !card.writing,
-            copy && card.writing,
+            frame && card.marked != 0 && number == 0,
+            frame && card.marked != 0 && number != 0,
+            copy && card.writing == 0,
+            copy && card.writing != 0,
             destination && mode::is_block(card.mode),
-            count > 0 && card.held != 0,
+            count > 0 && card.held & 0xFF != 0,
+            count > 0 && card.held > 0xFF,
+            frame && card.marked > 1 && number == 0,
+            copy && card.writing > 1,
+            destination && card.loaded > 1,
+            number != 0 && card.marked.max(card.writing).max(card.loaded) > 1,
         ];
         for (counter, met) in self.situations.iter_mut().zip(met) {
             *counter += u64::from(met);

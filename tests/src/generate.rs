@@ -54,7 +54,7 @@ impl Maker {
         }
     }
 
-    /// A card that a reset and accepted writes can leave.
+    /// A card that a reset and accepted writes can leave, but that its marks and held planes may be any words.
     pub fn good_card(&mut self) -> Card {
         let mut buffer = [0; 64];
         buffer.copy_from_slice(&self.random.bytes(64));
@@ -68,10 +68,19 @@ impl Maker {
             data: self.mask(),
             block: std::array::from_fn(|_| self.random.word()),
             buffer,
-            marked: self.random.one_in(2),
-            loaded: self.random.one_in(2),
-            writing: self.random.one_in(2),
-            held: self.held(),
+            marked: self.mark(),
+            loaded: self.mark(),
+            writing: self.mark(),
+            held: u32::from(self.held()) + (self.mark() & 0xFFFF_FF00),
+        }
+    }
+
+    /// 0, 1 or any word.
+    fn mark(&mut self) -> u32 {
+        match self.random.below(4) {
+            0 | 1 => 0,
+            2 => 1,
+            _ => self.mask(),
         }
     }
 

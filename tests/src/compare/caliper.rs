@@ -52,7 +52,7 @@ fn list(maker: &mut Maker, card: &Card, length: usize) -> Vec<Write> {
 fn keeps(card: &Card, write: Write) -> bool {
     let obeys = OPERATIONS.contains(&card.raster);
     match (write.space, write.address) {
-        (FRAME, _) if card.mode == mode::COPY => obeys && card.writing,
+        (FRAME, _) if card.mode == mode::COPY => obeys && card.writing != 0,
         (FRAME, _) => obeys && !mode::is_block(card.mode),
         (REGISTER, 0x0160) => false,
         (REGISTER, 0x0164) => obeys,

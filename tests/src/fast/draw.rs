@@ -34,7 +34,7 @@ fn pixels<const N: usize>(
 
 /// The plane mask without the held planes, from pixel `first` on.
 fn planes(card: &Card, first: u32) -> u64 {
-    from_pixel(twice(card.plane), first) & !(u64::from(card.held) * 0x0101_0101_0101_0101)
+    from_pixel(twice(card.plane), first) & !(u64::from(card.held & 0xFF) * 0x0101_0101_0101_0101)
 }
 
 fn drawn(card: &Card, source: u64, first: u32) -> Change {
@@ -147,13 +147,13 @@ pub fn block_fill(card: &Card, vram: &mut [u8], write: Write) -> Answer {
 /// The accepted writes of copy mode alternate.
 pub fn copy(card: &mut Card, vram: &mut [u8], write: Write) -> Answer {
     let pixels = pixels::<32>(vram, write.address, 8)?;
-    card.writing = !card.writing;
-    if card.writing {
+    card.writing = u32::from(card.writing == 0);
+    if card.writing == 1 {
         let buffer = card.buffer.as_chunks_mut().0;
         for (k, (to, from)) in buffer.iter_mut().zip(pixels.as_chunks().0).enumerate() {
             *to = (u64::from_le_bytes(*from) & spread(write.data, k)).to_le_bytes();
         }
-        card.loaded = false;
+        card.loaded = 0;
         return Ok(0);
     }
     let mask = planes(card, 0);
@@ -167,17 +167,17 @@ pub fn copy(card: &mut Card, vram: &mut [u8], write: Write) -> Answer {
 /// The 64-byte copy's source.
 pub fn load64(card: &mut Card, vram: &mut [u8], address: u32) -> Answer {
     card.buffer = *pixels(vram, address, 64)?;
-    card.loaded = true;
+    card.loaded = 1;
     Ok(0)
 }
 
 /// The 64-byte copy's destination.
 pub fn unload64(card: &mut Card, vram: &mut [u8], address: u32) -> Answer {
     let pixels = pixels::<64>(vram, address, 64)?;
-    if !card.loaded {
+    if card.loaded == 0 {
         return Err(9);
     }
-    card.loaded = false;
+    card.loaded = 0;
     let mask = planes(card, 0);
     let sources = card.buffer.as_chunks().0;
     for (eight, source) in pixels.as_chunks_mut().0.iter_mut().zip(sources) {

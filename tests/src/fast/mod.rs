@@ -44,10 +44,10 @@ pub fn reset(held: u8) -> Card {
         data: 0,
         block: [0; 8],
         buffer: [0; 64],
-        marked: false,
-        loaded: false,
-        writing: false,
-        held,
+        marked: 0,
+        loaded: 0,
+        writing: 0,
+        held: held.into(),
     }
 }
 
@@ -88,9 +88,9 @@ fn frame(card: &mut Card, vram: &mut [u8], write: Write) -> Answer {
         COPY => draw::copy(card, vram, write)?,
         _ => return Err(5),
     };
-    if card.marked {
+    if card.marked != 0 {
         card.pixel = 0xFFFF_FFFF;
-        card.marked = false;
+        card.marked = 0;
     }
     Ok(count)
 }
@@ -115,11 +115,11 @@ fn register(card: &mut Card, vram: &mut [u8], write: Write) -> Answer {
         0x20 => card.foreground = data,
         0x24 => card.background = data,
         0x28 => card.plane = data,
-        0x2C => (card.pixel, card.marked) = (data, true),
+        0x2C => (card.pixel, card.marked) = (data, 1),
         0x30 => card.mode = data,
         0x34 => card.raster = data & 15,
-        0x38 => card.writing = false,
-        0x5C => (card.pixel, card.marked) = (data, false),
+        0x38 => card.writing = 0,
+        0x5C => (card.pixel, card.marked) = (data, 0),
         0x80 => card.data = data,
         0x160 => return draw::load64(card, vram, data),
         0x164 => return draw::unload64(card, vram, data),

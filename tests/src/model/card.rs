@@ -1,5 +1,6 @@
 //! "Registers": what the card holds, and what reset leaves in it.
 
+/// A mark is a word, as a host keeps it: set where it is not 0, and 1 where the card itself sets it.
 #[derive(Clone, PartialEq, Eq, Debug)]
 pub struct Card {
     pub foreground: u32,
@@ -14,13 +15,13 @@ pub struct Card {
     pub block: [u32; 8],
     pub buffer: [u8; 64],
     /// The pixel mask is one-shot.
-    pub marked: bool,
+    pub marked: u32,
     /// The buffer holds a 64-byte source.
-    pub loaded: bool,
+    pub loaded: u32,
     /// The copy direction: the next accepted copy-mode write draws the destination.
-    pub writing: bool,
-    /// The held planes H, which no write can change.
-    pub held: u8,
+    pub writing: u32,
+    /// Bits 7:0 are the held planes H; no write can change any of it.
+    pub held: u32,
 }
 
 /// The table's column "At reset", and the paragraph on what else reset chooses.
@@ -35,9 +36,9 @@ pub fn reset(held: u8) -> Card {
         data: 0,
         block: [0; 8],
         buffer: [0; 64],
-        marked: false,
-        loaded: false,
-        writing: false,
-        held,
+        marked: 0,
+        loaded: 0,
+        writing: 0,
+        held: u32::from(held),
     }
 }

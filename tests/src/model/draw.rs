@@ -12,7 +12,8 @@ fn set(word: u32, i: u64) -> bool {
 
 /// An accepted frame write of any mode.
 pub fn frame(card: &mut Card, vram: &mut [u8], write: Write) -> u32 {
-    let count = if card.mode == mode::COPY && !card.writing {
+    let reads = card.mode == mode::COPY && card.writing == 0;
+    let count = if reads {
         read_source(card, vram, write);
         0
     } else {
@@ -20,12 +21,12 @@ pub fn frame(card: &mut Card, vram: &mut [u8], write: Write) -> u32 {
     };
     if card.mode == mode::COPY {
         // "Copy (07h): accepted writes alternate."
-        card.writing = !card.writing;
+        card.writing = u32::from(reads);
     }
-    if card.marked {
+    if card.marked != 0 {
         // "An accepted frame write of any mode, made while it is marked, sets it to all ones and unmarks it afterwards."
         card.pixel = 0xFFFF_FFFF;
-        card.marked = false;
+        card.marked = 0;
     }
     count
 }
@@ -100,7 +101,7 @@ fn read_source(card: &mut Card, vram: &[u8], write: Write) {
             0
         };
     }
-    card.loaded = false;
+    card.loaded = 0;
 }
 
 /// 64-byte copy: "Source loads 64 pixels and marks the buffer loaded".
@@ -108,7 +109,7 @@ pub fn load64(card: &mut Card, vram: &[u8], write: Write) {
     for i in 0..64 {
         card.buffer[i] = vram[write.data as usize + i];
     }
-    card.loaded = true;
+    card.loaded = 1;
 }
 
 /// 64-byte copy: "destination draws all 64 with raster operation and plane mask, while a block mode is set too, then unloads".
@@ -123,6 +124,6 @@ pub fn unload64(card: &mut Card, vram: &mut [u8], write: Write) -> u32 {
             source,
         );
     }
-    card.loaded = false;
+    card.loaded = 0;
     64
 }

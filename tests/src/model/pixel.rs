@@ -18,7 +18,7 @@ pub fn byte_of(register: u32, i: u64) -> u8 {
 
 /// The plane byte of pixel p with H's bits cleared.
 fn effective_mask(card: &Card, p: u64) -> u8 {
-    byte_of(card.plane, p % 4) & !card.held
+    byte_of(card.plane, p % 4) & !byte_of(card.held, 0)
 }
 
 /// The byte that pixel p becomes from its old byte and a source byte. "Bits outside it keep their old state."

@@ -71,7 +71,7 @@ fn outside(card: &Card, length: u64, write: Write) -> bool {
 
 /// Number 9.
 fn nothing_loaded(card: &Card, write: Write) -> bool {
-    register(write) == Some(Register::Destination) && !card.loaded
+    register(write) == Some(Register::Destination) && card.loaded == 0
 }
 
 /// "Where several apply, the lowest number is returned."

@@ -53,17 +53,17 @@ pub fn accept(card: &mut Card, vram: &mut [u8], write: Write) -> u32 {
         Register::PixelOnce => {
             // "A write at 002Ch also marks it one-shot"
             card.pixel = write.data;
-            card.marked = true;
+            card.marked = 1;
         }
         Register::Mode => card.mode = write.data,
         // "Raster-operation bits 31:12 and 7:4 ... are ignored and read as zero."
         Register::Raster => card.raster = write.data % 16,
         // "A pixel-shift write returns the direction to read source"; its own value can only be 0.
-        Register::Shift => card.writing = false,
+        Register::Shift => card.writing = 0,
         Register::PixelLasting => {
             // "a write at 005Ch unmarks it"
             card.pixel = write.data;
-            card.marked = false;
+            card.marked = 0;
         }
         Register::Data => card.data = write.data,
         Register::Block(i) => card.block[i] = write.data,
