@@ -12,20 +12,14 @@ use card::SET;
 use card::Write;
 use rules::plan::Effect;
 
-// A one-shot pixel mask is used up.
-fn used_up(mask: Mask) -> Mask
-    ensures { λ r. ⌜ r ≡ usedUp mask ⌝ }
+// The pixel mask after a frame write: a one-shot one is used up.
+fn used_up(mask: Mask) -> u32
+    ensures { λ r. ⌜ r ≡ usedUp mask .bits ⌝ }
 {
     if mask.marked == CLEAR {
-        return Mask {
-            bits: mask.bits,
-            marked: CLEAR,
-        };
+        return mask.bits;
     }
-    Mask {
-        bits: 0xFFFF_FFFF,
-        marked: CLEAR,
-    }
+    0xFFFF_FFFF
 }
 
 // The card that an effect leaves. Those that look at the picture have to find their span inside.
@@ -34,10 +28,11 @@ pub(crate) fn left(effect: Effect, card: Card, w: Write, vram: &[u8]) -> Card
     ensures { λ r. ⌜ r ≡ leftBy effect card w (now (vram .entry)) ⌝ }
 {
     let mut next = card;
-    let mask = used_up(card.mask);
+    let bits = used_up(card.mask);
     match effect {
         Effect::UsesMask => {
-            next.mask = mask;
+            next.mask.bits = bits;
+            next.mask.marked = CLEAR;
             next
         }
         Effect::ReadsSource => {
@@ -48,12 +43,14 @@ pub(crate) fn left(effect: Effect, card: Card, w: Write, vram: &[u8]) -> Card
                 loaded: CLEAR,
                 writing: SET,
             };
-            next.mask = mask;
+            next.mask.bits = bits;
+            next.mask.marked = CLEAR;
             next.copier = copier;
             next
         }
         Effect::DrawsDestination => {
-            next.mask = mask;
+            next.mask.bits = bits;
+            next.mask.marked = CLEAR;
             next.copier.writing = CLEAR;
             next
         }

@@ -43,15 +43,15 @@ enum-told-5 c = search needs
 
 returns : tie.Need-returns
 unfolding left
-returns c = rw (c .enum-told .given .1, c .before .before .used-up .ensures)
+returns c = rw (c .before .before .enum-told .given .1, c .before .before .before .before .used-up .ensures)
 
 returns-2 : tie.Need-returns-2
 unfolding left sourced
-returns-2 c = rw (c .before .before .before .enum-told2 .given .1, c .before .before .before .before .before .used-up .ensures, c .read-32 .ensures)
+returns-2 c = rw (c .before .before .before .before .before .enum-told2 .given .1, c .before .before .before .before .before .before .before .used-up .ensures, c .before .before .read-32 .ensures)
 
 returns-3 : tie.Need-returns-3
 unfolding left
-returns-3 c = rw (c .before .enum-told3 .given .1, c .before .before .before .used-up .ensures)
+returns-3 c = rw (c .before .before .before .enum-told3 .given .1, c .before .before .before .before .before .used-up .ensures)
 
 returns-4 : tie.Need-returns-4
 unfolding left
