@@ -1,29 +1,27 @@
 -- Beyond demand 3's single draw: a caliper is a handful of writes, and made again from the same card the whole list takes it off.
 -- Register writes and refused ones may be among them. Assumes nothing.
 use mathlib.Core.Path.{_≡_, refl, ap, ap₂, sym, subst, _∙_}
-use mathlib.Core.Bool.{Bool, true, false, cond, not, _&&_, _||_}
-use mathlib.Core.List.{List, [], _∷_, map}
+use mathlib.Core.Bool.{Bool, true, false, cond, not, _&&_}
+use mathlib.Core.List.{List, [], _∷_}
 use mathlib.Core.Logic.{_⊎_, inl, inr}
-use Prim.Native.Nat.{ℕ, _+_, _<_, _≤_}
-use native.Mathlib.Decide.{decLt, ℕ-discrete}
+use Prim.Native.Nat.{ℕ, _<_}
+use native.Mathlib.Decide.{decLt}
 use native.Mathlib.Omega.{arith}
 use lib.Dec.{T, eqb}
 use lib.ListN.{length}
-use borrow.Author.Tests.{eq-eqb, ne-eqb}
+use borrow.Author.Tests.{ne-eqb}
 use Rattle.raster.specs.Pixel.{composite, result, number, bit}
 use Rattle.raster.specs.Operations.{restoring}
 use Rattle.raster.proofs.Operations.{undoes-itself}
 use Rattle.span.specs.Fragments.{Fragment, Bytes}
-use Rattle.span.specs.Layers.{drawnAll, Each, summed}
-use Rattle.span.specs.Spans.{Span, spanned, enabledIn}
-use Rattle.span.proofs.Counted.{counted-zero}
-use Rattle.span.proofs.Layers.{Restores, drawnAll-length, drawnAll-bytes, drawnAll-five, drawnAll-restores, drawnAll-swap}
+use Rattle.span.specs.Layers.{drawnAll}
+use Rattle.span.proofs.Layers.{Restores, drawnAll-restores, drawnAll-swap}
 use Rattle.card.specs.declared.Card.{Card}
 use Rattle.card.specs.declared.Write.{Write}
 use Rattle.rules.specs.Modes.{modeOf, isBlock}
 use Rattle.rules.specs.Refusal.{refusal}
 use Rattle.rules.specs.Writes.{count, layers, operation, picture, next}
-use Rattle.rules.specs.Sequences.{cardAfter, pictureAfter, answersOf, obeys, Undoable, EachUndoable}
+use Rattle.rules.specs.Sequences.{cardAfter, pictureAfter, answersOf, obeys, EachUndoable}
 use Rattle.demands.proofs.Demand1.{same-length}
 use Rattle.demands.proofs.Quiet.{none-drawn, next-blind}
 

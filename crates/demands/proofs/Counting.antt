@@ -1,9 +1,7 @@
 -- No write enables more than 2,048 pixels. Assumes nothing.
-use mathlib.Core.Path.{_≡_}
 use mathlib.Core.Bool.{Bool, true, false, cond}
-use mathlib.Core.List.{List, [], _∷_}
+use mathlib.Core.List.{List, []}
 use Prim.Native.Nat.{ℕ, _+_, _≤_}
-use native.Mathlib.Nat.{le-trans}
 use native.Mathlib.Omega.{arith}
 use lib.Dec.{eqb}
 use Rattle.span.specs.Fragments.{counted}
@@ -13,7 +11,7 @@ use Rattle.card.specs.Registers.{code}
 use Rattle.card.specs.declared.Card.{Card}
 use Rattle.card.specs.declared.Write.{Write}
 use Rattle.span.specs.Spans.{Span, enabledIn}
-use Rattle.rules.specs.Modes.{modeOf, registerOf, registerSpans, frameSpan, spansOf}
+use Rattle.rules.specs.Modes.{modeOf, registerOf, frameSpan, spansOf}
 use Rattle.rules.specs.Writes.{accepted, count}
 use Rattle.rules.specs.declared.Mode.{Mode}
 use Rattle.rules.specs.declared.Mode.the-variants.{Simple, OpaqueStipple, TransparentStipple, OpaqueFill, TransparentFill, BlockStipple, BlockFill, Copy, Unlisted}

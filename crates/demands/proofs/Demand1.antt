@@ -1,7 +1,7 @@
 -- Demand 1, for one write: every write gets an answer, and a refused one changes nothing.
 -- That refusal does not depend on the picture is said by its type: it takes the length, and no byte. Assumes nothing.
 use mathlib.Core.Path.{_≡_, ap}
-use mathlib.Core.Bool.{Bool, true, false, cond, _&&_}
+use mathlib.Core.Bool.{Bool, true, false, _&&_}
 use mathlib.Core.List.{List, [], _∷_}
 use Prim.Native.Nat.{ℕ, _≤_, _<_}
 use native.Mathlib.Omega.{arith}

@@ -1,6 +1,6 @@
 -- Demand 2: nothing outside the span, the pixel masks or the plane mask changes, and the held planes keep every bit through any
 -- list of writes, refused ones included. Assumes nothing.
-use mathlib.Core.Path.{_≡_, refl, ap, sym, _∙_}
+use mathlib.Core.Path.{_≡_, refl, _∙_}
 use mathlib.Core.Bool.{Bool, true, false, cond}
 use mathlib.Core.List.{List, [], _∷_, map}
 use mathlib.Core.Logic.{_⊎_, inl, inr}
@@ -19,7 +19,6 @@ use Rattle.card.specs.declared.Card.{Card}
 use Rattle.card.specs.declared.Write.{Write}
 use Rattle.span.specs.Spans.{Span, spanned}
 use Rattle.rules.specs.Modes.{effectiveBy, effective, spansOf}
-use Rattle.rules.specs.Refusal.{refusal}
 use Rattle.rules.specs.Writes.{accepted, operation, layers, afterFrame, afterRegister, next, picture}
 use Rattle.rules.specs.Sequences.{cardAfter, pictureAfter}
 use Rattle.span.proofs.Spans.{spanned-before, spanned-in, spanned-past}

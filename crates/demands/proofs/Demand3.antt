@@ -11,7 +11,7 @@ use lib.ListN.{length}
 use borrow.Author.Tests.{lt-ltb, le-ltb}
 use Rattle.raster.specs.Pixel.{bit, number, result, composite, Operations, only, _then_, compositeOf}
 use Rattle.raster.specs.Operations.{restoring}
-use Rattle.raster.proofs.Composite.{result-low, result-composite}
+use Rattle.raster.proofs.Composite.{result-low}
 use Rattle.raster.proofs.Operations.{undoes-itself}
 use Rattle.span.specs.Fragments.{Fragment, Bytes}
 use Rattle.span.specs.Layers.{drawnAll, Apart}
@@ -21,7 +21,7 @@ use Rattle.card.specs.declared.Card.{Card}
 use Rattle.card.specs.declared.Write.{Write}
 use Rattle.span.specs.Spans.{Span, spanned}
 use Rattle.rules.specs.Modes.{modeOf, isBlock, effective, registerOf, frameSpan, spansOf}
-use Rattle.rules.specs.Refusal.{badLength, badSpace, badLanes, noRegister, badMode, badRaster, offBoundary, outside, unloaded, refusal}
+use Rattle.rules.specs.Refusal.{badLanes, badMode, badRaster, offBoundary, outside, unloaded, refusal}
 use Rattle.rules.specs.Writes.{accepted, count, layers, operation, picture}
 use Rattle.rules.specs.Sequences.{withOperation, drawnWith, drawnWithEach, EachDraw, obeys}
 use Rattle.rules.specs.declared.Mode.{Mode}

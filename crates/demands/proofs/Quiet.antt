@@ -3,12 +3,12 @@
 use mathlib.Core.Path.{_≡_, refl, ap, sym, _∙_}
 use mathlib.Core.Bool.{Bool, true, false, cond, not, _&&_}
 use mathlib.Core.List.{List, [], _∷_}
-use Prim.Native.Nat.{ℕ, _+_, _<_}
+use Prim.Native.Nat.{ℕ}
 use native.Mathlib.Decide.{ℕ-discrete}
 use native.Mathlib.Omega.{arith}
 use lib.Dec.{eqb}
 use lib.ListN.{length}
-use Rattle.span.specs.Fragments.{Fragment, stays, counted}
+use Rattle.span.specs.Fragments.{stays}
 use Rattle.span.specs.Layers.{Each, summed}
 use Rattle.span.specs.Spans.{Span, spanned, enabledIn}
 use Rattle.span.proofs.Counted.{counted-zero}

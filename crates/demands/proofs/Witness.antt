@@ -1,12 +1,12 @@
 -- Demand 3, the last clause: each operation but 5, 6, 9 and 10 has an accepted draw in simple mode that made twice does not restore.
 -- One test over all sixteen operations, which antt computes. Assumes nothing.
-use mathlib.Core.Path.{_≡_, refl, ap, sym, subst, _∙_}
+use mathlib.Core.Path.{_≡_, refl, ap, sym, subst}
 use mathlib.Core.Bool.{Bool, true, false, cond, not, _&&_, _||_}
 use mathlib.Core.List.{List}
 use mathlib.Core.Logic.{_↔_}
 use Prim.Native.Nat.{ℕ, _/_, _%_, _<_}
 use lib.Dec.{T, T-not, eqb, eqb→eq, eqb-refl, lit<}
-use lib.ListN.{length, getD, replicate, getD-replicate, length-replicate}
+use lib.ListN.{length, getD, replicate, getD-replicate}
 use Rattle.raster.specs.Pixel.{bit, number, result, made}
 use Rattle.raster.specs.Operations.{restoring}
 use Rattle.raster.proofs.Below.{allBelow, all-below, left, right}

@@ -1,12 +1,11 @@
 -- Bits of a number, and numbers made of bits, over any width. Assumes nothing.
 use mathlib.Core.Path.{_≡_, refl, ap, sym, _∙_}
-use mathlib.Core.Bool.{Bool, true, false, cond}
-use Prim.Native.Nat.{ℕ, zero, suc, _+_, _-_, _*_, _/_, _%_, _^_, _≤_, _<_, suc-le-suc}
-use native.Mathlib.Nat.{le-of-suc-le-suc, not-suc-le-zero, div-one, pow-zero, pow-suc, zero-lt-suc}
+use mathlib.Core.Bool.{Bool, true, false}
+use Prim.Native.Nat.{ℕ, zero, suc, _+_, _*_, _/_, _%_, _^_, _<_, suc-le-suc}
+use native.Mathlib.Nat.{le-of-suc-le-suc, not-suc-le-zero, div-one, zero-lt-suc}
 use native.Mathlib.Omega.{arith}
 use lib.Dec.{eqb}
-use lib.Pow.{shr-shr, pow-pos}
-use borrow.Author.Tests.{eqb-true, eq-eqb}
+use lib.Pow.{shr-shr}
 use Rattle.raster.specs.Pixel.{bit, value, number}
 
 pub bit-zero : (n : ℕ) → bit n 0 ≡ eqb (n % 2) 1

@@ -1,10 +1,10 @@
 -- Composing two operations: what the composite gives, the monoid laws, and which operations undo themselves. Assumes nothing.
-use mathlib.Core.Path.{_≡_, refl, ap, ap₂, sym, _∙_}
-use mathlib.Core.Bool.{Bool, true, false, cond}
-use Prim.Native.Nat.{ℕ, zero, suc, _+_, _-_, _*_, _/_, _%_, _^_, _<_}
+use mathlib.Core.Path.{_≡_, refl}
+use mathlib.Core.Bool.{Bool, true, false}
+use Prim.Native.Nat.{ℕ, zero, suc, _/_, _%_, _<_}
 use native.Mathlib.Omega.{arith}
-use lib.Dec.{eqb, ltb, lit<}
-use Rattle.raster.specs.Pixel.{bit, number, value, result, made, composite}
+use lib.Dec.{lit<}
+use Rattle.raster.specs.Pixel.{bit, result, composite}
 use Rattle.raster.proofs.Bits.{bit-number, number-below, same-bits}
 
 -- 5 is no operation

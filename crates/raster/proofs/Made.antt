@@ -2,7 +2,7 @@
 use mathlib.Core.Path.{_≡_, refl, ap, sym, _∙_}
 use mathlib.Core.Bool.{Bool, true, false, cond}
 use Prim.Native.Nat.{ℕ, _^_, _<_}
-use Rattle.raster.specs.Pixel.{bit, number, result, made, composite}
+use Rattle.raster.specs.Pixel.{bit, result, made, composite}
 use Rattle.raster.proofs.Bits.{bit-number, number-below, same-bits}
 use Rattle.raster.proofs.Composite.{result-composite, result-five}
 

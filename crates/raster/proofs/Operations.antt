@@ -1,14 +1,14 @@
 -- The sixteen operations: they are the X Window System's, and four of them undo themselves. Each is one test that antt computes over
 -- all sixteen, carried to each number. Assumes nothing.
-use mathlib.Core.Path.{_≡_, refl, ap, sym, subst}
+use mathlib.Core.Path.{_≡_, refl, sym, subst}
 use mathlib.Core.Bool.{Bool, true, false, _&&_, Bool·beq, xor}
 use mathlib.Core.Logic.{_↔_}
 use Prim.Native.Nat.{ℕ, _<_}
-use lib.Dec.{T, eqb, eqb→eq, eqb-refl}
+use lib.Dec.{T, eqb, eqb→eq}
 use lib.ListN.{getD}
 use Rattle.raster.specs.Pixel.{bit, number, result, composite}
 use Rattle.raster.specs.Operations.{gx, restoring}
-use Rattle.raster.proofs.Below.{allBelow, all-below, left, right}
+use Rattle.raster.proofs.Below.{all-below, left, right}
 
 same : (a b : Bool) → T (Bool·beq a b) → a ≡ b
 same true true t = refl

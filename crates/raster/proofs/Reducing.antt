@@ -1,7 +1,7 @@
 -- A raster operation reduced to two bytes: what settles an old byte of zeros and one of ones settles every old byte. Assumes nothing.
-use mathlib.Core.Path.{_≡_, refl, ap, sym, _∙_}
+use mathlib.Core.Path.{_≡_, refl, _∙_}
 use mathlib.Core.Bool.{Bool, true, false, cond, not}
-use Prim.Native.Nat.{ℕ, _+_, _/_, _<_}
+use Prim.Native.Nat.{ℕ, _/_, _<_}
 use native.Mathlib.Nat.{div-one}
 use lib.Bits.{bitAnd, bitXor, xor-lt, and-lt}
 use Rattle.raster.specs.Pixel.{bit, number, result, made}

@@ -6,7 +6,6 @@ use lib.Bits.{bitAnd}
 use Rattle.card.specs.Registers.{rowAt, _is_}
 use Rattle.card.specs.declared.Card.{Card}
 use Rattle.card.specs.declared.Write.{Write}
-use Rattle.card.specs.declared.Register.{Register}
 use Rattle.card.specs.declared.Register.the-variants.{CopySource, CopyDestination}
 use Rattle.card.specs.declared.table.Row.{Row}
 use Rattle.rules.specs.Modes.{registerOf}

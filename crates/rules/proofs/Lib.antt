@@ -6,4 +6,6 @@ pub mod Others
 pub mod Arms
 pub mod Outcome
 pub mod Plans
+pub mod PlanNumber
+pub mod PlanEffect
 pub mod Samples

@@ -1,19 +1,19 @@
 -- What an accepted write has passed, and what the definitions then say; and what a refused one leaves. Assumes nothing.
-use mathlib.Core.Path.{_≡_, refl, sym}
-use mathlib.Core.Bool.{Bool, true, false, _&&_, _||_, false≢true}
+use mathlib.Core.Path.{_≡_, refl}
+use mathlib.Core.Bool.{Bool, true, false, _&&_, _||_}
 use mathlib.Core.List.{List, [], _∷_, map}
-use Prim.Native.Nat.{ℕ, zero, suc, _+_, _≤_, _<_}
+use Prim.Native.Nat.{ℕ, zero, suc, _≤_, _<_}
 use native.Mathlib.Omega.{arith}
 use lib.Dec.{T, ltb}
 use lib.ListN.{length, getD}
 use borrow.Author.Tests.{eq-eqb, ne-eqb, ltb-true, ltb-false}
 use Rattle.raster.proofs.Below.{left, right, is-true}
-use Rattle.span.specs.Layers.{drawnAll, Each, summed}
-use Rattle.span.specs.Spans.{Span, spanned, enabledIn}
+use Rattle.span.specs.Layers.{drawnAll, summed}
+use Rattle.span.specs.Spans.{spanned, enabledIn}
 use Rattle.card.specs.declared.Card.{Card}
 use Rattle.card.specs.declared.Write.{Write}
-use Rattle.rules.specs.Modes.{modeOf, effective, registerOf, registerSpans, frameSpan, spansOf}
-use Rattle.rules.specs.Refusal.{badSpace, badRaster, past, outside, rows, firstHolding, refusal}
+use Rattle.rules.specs.Modes.{effective, spansOf}
+use Rattle.rules.specs.Refusal.{badSpace, badRaster, rows, firstHolding, refusal}
 use Rattle.rules.specs.Writes.{count, layers, operation, picture, afterFrame, afterRegister, next}
 
 -- every row's number is above 0
@@ -36,19 +36,6 @@ first-false : (a b : Bool) → a || b ≡ false → a ≡ false
 first-false true b e = e
 first-false false b e = refl
 
-second-false : (a b : Bool) → a || b ≡ false → b ≡ false
-second-false true b e = absurd (false≢true (sym e))
-second-false false b e = e
-
-none-past : (n : ℕ) (ss : List Span) → past n ss ≡ false → Each (λ s. s .first + s .width ≤ n) ss
-none-past n [] e = tt
-none-past n (s ∷ ss) e = (ltb-false n (s .first + s .width) (first-false _ _ e), none-past n ss (second-false (ltb n (s .first + s .width)) _ e))
-
--- every span lies inside VRAM
-pub accepted-inside : (c : Card) (w : Write) (n : ℕ) → refusal c w n ≡ 0 → Each (λ s. s .first + s .width ≤ n) (spansOf c w)
-unfolding outside
-accepted-inside c w n e = none-past n (spansOf c w) (accepted-passed c w n e 7)
-
 -- the raster operation is one of the sixteen
 pub accepted-raster : (c : Card) (w : Write) (n : ℕ) → refusal c w n ≡ 0 → c .registers .raster < 16
 unfolding badRaster
@@ -62,14 +49,6 @@ unfolding badSpace
 accepted-space c w n e = ltb-false 1 (w .space) (first-false _ _ (accepted-passed c w n e 1))
 
 module _ (c : Card) (w : Write) where
-  pub register-spans : w .space ≡ 1 → spansOf c w ≡ registerSpans (registerOf w) c w
-  unfolding spansOf
-  register-spans e = simp (eq-eqb _ _ e)
-
-  pub frame-spans : (w .space ≡ 1 → ⊥) → spansOf c w ≡ frameSpan (modeOf (c .registers .mode)) c w ∷ []
-  unfolding spansOf
-  frame-spans e = simp (ne-eqb _ _ e)
-
   module _ (v : List ℕ) (e : refusal c w (length v) ≡ 0) where
     pub picture-accepted : picture c w v ≡ drawnAll (operation c w) (map (spanned (effective c)) (spansOf c w)) v
     unfolding picture layers

@@ -1,41 +1,34 @@
--- The plan of a write is what the definitions say of it: its number, its spans pixel by pixel, and the card that it leaves. Assumes nothing.
-use mathlib.Core.Path.{_≡_, refl, ap, ap₂, sym, _∙_, subst}
+-- The plan of a write draws and counts what the write's spans do, pixel by pixel. Assumes nothing.
+use mathlib.Core.Path.{_≡_, refl, ap, ap₂, sym, _∙_}
 use mathlib.Core.Bool.{Bool, true, false, cond, _&&_, false≢true}
 use mathlib.Core.List.{List, [], _∷_, map}
-use Prim.Native.Nat.{ℕ, _+_, _%_, _<_, _≤_}
-use native.Mathlib.Nat.{not-suc-le-zero, mod-eq-of-lt}
-use native.Mathlib.Decide.{ℕ-discrete}
+use Prim.Native.Nat.{ℕ, _+_, _%_, _<_}
+use native.Mathlib.Nat.{not-suc-le-zero}
 use native.Mathlib.Omega.{arith}
 use lib.Bits.{bitAnd}
 use lib.Dec.{eqb, ltb}
-use lib.ListN.{length, getD}
-use borrow.Author.Tests.{eq-eqb, ne-eqb, eqb-true, le-ltb, ltb-false}
+use lib.ListN.{getD}
+use borrow.Author.Tests.{eq-eqb, ne-eqb, le-ltb}
 use Rattle.raster.specs.Pixel.{bit}
 use Rattle.raster.proofs.Below.{bit-zeros}
-use Rattle.span.specs.Fragments.{Fragment, byte, drawn, counted}
+use Rattle.span.specs.Fragments.{byte, drawn, counted}
 use Rattle.span.specs.Layers.{drawnAll, summed}
 use Rattle.span.specs.Spans.{Span, span, spanned, enabledIn}
 use Rattle.span.proofs.Counted.{counted-same, counted-none}
 use Rattle.span.proofs.Drawn.{drawn-same, drawn-none}
 use Rattle.span.proofs.Spans.{spanned-same, spanned-off}
-use Rattle.card.specs.Registers.{rowAt, code, stores, isSet, _is_}
+use Rattle.card.specs.Registers.{rowAt, isSet, _is_}
 use Rattle.card.specs.declared.Card.{Card}
 use Rattle.card.specs.declared.Write.{Write}
 use Rattle.card.specs.declared.Register.the-variants.{CopySource, CopyDestination}
-use Rattle.rules.specs.Modes.{modeOf, isBlock, isCopy, foreground, background, effective, registerOf, registerSpans, frameSpan, spansOf}
-use Rattle.rules.specs.Plan.{frameFaults, frameEffect, framePlan, registerFaults, copyingPlan, storingPlan, registerPlan, planOf, judged, planned, left, Within, isWhole}
-use Rattle.rules.specs.Refusal.{badLength, badSpace, badLanes, noRegister, badMode, badRaster, offBoundary, past, outside, unloaded, firstHolding, refusal}
-use Rattle.rules.specs.Writes.{count, operation, picture, usedUp, alternated, afterFrame, afterRegister, next}
+use Rattle.rules.specs.Modes.{modeOf, foreground, background, effective, registerOf, registerSpans, frameSpan, spansOf}
+use Rattle.rules.specs.Plan.{framePlan, registerFaults, copyingPlan, storingPlan, registerPlan, planOf, planned, isWhole}
+use Rattle.rules.specs.Refusal.{past}
 use Rattle.rules.specs.declared.Mode.{Mode}
 use Rattle.rules.specs.declared.Mode.the-variants.{Simple, OpaqueStipple, TransparentStipple, OpaqueFill, TransparentFill, BlockStipple, BlockFill, Copy, Unlisted}
-use Rattle.rules.specs.declared.plan.Effect.{Effect}
-use Rattle.rules.specs.declared.plan.Effect.the-variants.{UsesMask, ReadsSource, DrawsDestination, Stores, Loads, Unloads}
-use Rattle.rules.specs.declared.plan.Faults.{Faults}
-use Rattle.rules.specs.declared.plan.Paint.{Paint}
-use Rattle.rules.specs.declared.plan.Paint.the-variants.{Words, Colours, Half, Whole}
+use Rattle.rules.specs.declared.plan.Effect.the-variants.{Loads, Unloads}
 use Rattle.rules.specs.declared.plan.Plan.{Plan}
-use Rattle.rules.proofs.Outcome.{accepted-passed, accepted-raster, accepted-space, register-spans, frame-spans, picture-accepted, count-accepted, next-register, next-frame}
-use Rattle.rules.proofs.Tests.{and-true, or-false}
+use Rattle.rules.proofs.Tests.{or-false}
 use Rattle.rules.proofs.Words.{first-turn, bit-word, bit-both}
 
 gate : (b : Bool) (x j : ℕ) → j < 32 → bit (cond b x 0) (j % 32) ≡ b && bit x j
@@ -73,7 +66,7 @@ module _ (c : Card) (w : Write) where
   plan-takes Unlisted j h = absurd (not-suc-le-zero h)
 
   -- a register write, by whether it is the 64-byte copy's source or destination
-  abbrev plan : Bool → Bool → Plan
+  abbrev pub plan : Bool → Bool → Plan
   plan s d =
       let f = registerFaults (registerOf w) c w in
       let op = c .registers .raster % 16 in
@@ -85,7 +78,7 @@ module _ (c : Card) (w : Write) where
       cond s (span (w .«data») 64 (λ i. false) (λ i. 0) ∷ []) (cond d (span (w .«data») 64 (λ i. true) (λ i. getD (c .copier .buffer) i 0) ∷ []) [])
 
   -- what the plan draws is what the spans draw, one after the other
-  abbrev Draws : Plan → List Span → Type 0
+  abbrev pub Draws : Plan → List Span → Type 0
   Draws p ss =
       ((n : ℕ) → ltb n (p .first + p .width) ≡ past n ss)
       × ((op : ℕ) (v : List ℕ) → drawn op (spanned (effective c) (planned p c)) v ≡ drawnAll op (map (spanned (effective c)) ss) v)
@@ -123,7 +116,7 @@ module _ (c : Card) (w : Write) where
     counted-none 0 _ (none-on (plan false false) refl),
   )
 
-  planned-draws : Draws (planOf c w) (spansOf c w)
+  pub planned-draws : Draws (planOf c w) (spansOf c w)
   unfolding planOf spansOf
   planned-draws = go (eqb (w .space) 1)
     where
@@ -132,161 +125,13 @@ module _ (c : Card) (w : Write) where
       go true = register-draws (registerOf w is CopySource) (registerOf w is CopyDestination)
       go false = frame-draws (modeOf (c .registers .mode))
 
-  -- what is at fault with the write, by the definitions
-  abbrev faults : Faults
-  faults =
-      record {
-        lanes = badLanes c w;
-        register = noRegister w;
-        mode = badMode c w;
-        raster = badRaster c w;
-        address = offBoundary c w;
-        source = unloaded c w;
-      }
-
-  frame-faults : (w .space ≡ 1 → ⊥) → frameFaults (modeOf (c .registers .mode)) c w ≡ faults
-  unfolding badLanes noRegister badMode badRaster offBoundary unloaded
-  frame-faults h = simp (ne-eqb (w .space) 1 h, or-false)
-
-  register-faults : w .space ≡ 1 → registerFaults (registerOf w) c w ≡ faults
-  unfolding badLanes noRegister badMode badRaster offBoundary unloaded
-  register-faults h = simp (eq-eqb (w .space) 1 h, and-true)
-
-  plan-faults : (s d : Bool) → plan s d .faults ≡ registerFaults (registerOf w) c w
-  plan-faults true d = refl
-  plan-faults false true = refl
-  plan-faults false false = refl
-
-  frame-plan : (w .space ≡ 1 → ⊥) → planOf c w ≡ framePlan (modeOf (c .registers .mode)) c w
+  pub frame-plan : (w .space ≡ 1 → ⊥) → planOf c w ≡ framePlan (modeOf (c .registers .mode)) c w
   unfolding planOf
   frame-plan h = simp (ne-eqb (w .space) 1 h)
 
-  register-plan : w .space ≡ 1 → planOf c w ≡ plan (registerOf w is CopySource) (registerOf w is CopyDestination)
+  pub register-plan : w .space ≡ 1 → planOf c w ≡ plan (registerOf w is CopySource) (registerOf w is CopyDestination)
   unfolding planOf
   register-plan h = simp (eq-eqb (w .space) 1 h)
-
-  planned-faults : planOf c w .faults ≡ faults
-  planned-faults = go (ℕ-discrete (w .space) 1)
-    where
-      go : Dec (w .space ≡ 1) → planOf c w .faults ≡ faults
-      go (yes h) =
-          ap (λ (p : Plan). p .faults) (register-plan h)
-          ∙ (plan-faults (registerOf w is CopySource) (registerOf w is CopyDestination) ∙ register-faults h)
-      go (no h) = ap (λ (p : Plan). p .faults) (frame-plan h) ∙ frame-faults h
-
-  -- the number of the plan is the number of the write
-  pub planned-number : (n : ℕ) → judged (planOf c w) w n ≡ refusal c w n
-  unfolding judged refusal outside
-  planned-number n =
-      ap₂ (λ (f : Faults) (past : Bool). firstHolding (
-      (1, badLength n) ∷ (2, badSpace w) ∷ (3, f .lanes) ∷ (4, f .register) ∷ (5, f .mode) ∷ (6, f .raster) ∷ (7, f .address) ∷ (8, past) ∷ (9, f .source) ∷ []
-      ))
-      planned-faults (planned-draws .0 n)
-
-  module _ (v : List ℕ) (ok : refusal c w (length v) ≡ 0) where
-    -- an accepted write's span lies inside VRAM
-    pub planned-inside : planOf c w .first + planOf c w .width ≤ length v
-    unfolding outside
-    planned-inside = ltb-false (length v) (planOf c w .first + planOf c w .width) (planned-draws .0 (length v) ∙ accepted-passed c w (length v) ok 7)
-
-    raster-kept : c .registers .raster % 16 ≡ c .registers .raster
-    raster-kept = mod-eq-of-lt (accepted-raster c w (length v) ok)
-
-    planned-operation : planOf c w .op ≡ operation c w
-    unfolding operation
-    planned-operation = go (ℕ-discrete (w .space) 1)
-      where
-        plan-op : (s d : Bool) → plan s d .op ≡ c .registers .raster % 16
-        plan-op true d = refl
-        plan-op false true = refl
-        plan-op false false = refl
-
-        go : Dec (w .space ≡ 1) → planOf c w .op ≡ operation c w
-        go (yes h) =
-            let z : eqb (w .space) 0 ≡ false = ne-eqb (w .space) 0 (λ q. omega arith) in
-            ap (λ (p : Plan). p .op) (register-plan h)
-            ∙ (plan-op (registerOf w is CopySource) (registerOf w is CopyDestination)
-            ∙ (raster-kept ∙ sym (ap (λ (b : Bool). cond (b && isBlock (modeOf (c .registers .mode))) 3 (c .registers .raster)) z)))
-        go (no h) =
-            let l = accepted-space c w (length v) ok in
-            let z : eqb (w .space) 0 ≡ true = eq-eqb (w .space) 0 (omega arith) in
-            ap (λ (p : Plan). p .op) (frame-plan h)
-            ∙ sym (ap₂ (λ (b : Bool) (r : ℕ). cond (b && isBlock (modeOf (c .registers .mode))) 3 r) z (sym raster-kept))
-
-    -- its picture and its count are those of the planned span
-    pub planned-shows : picture c w v ≡ drawn (planOf c w .op) (spanned (effective c) (planned (planOf c w) c)) v
-    planned-shows =
-        picture-accepted c w v ok
-        ∙ (sym (planned-draws .1 (operation c w) v)
-        ∙ ap (λ (op : ℕ). drawn op (spanned (effective c) (planned (planOf c w) c)) v) (sym planned-operation))
-
-    pub planned-counts : count c w (length v) ≡ enabledIn (planned (planOf c w) c)
-    planned-counts = count-accepted c w v ok ∙ sym (planned-draws .2)
-
-    -- and the card that it leaves is that of the planned effect
-    frame-leaves : (copies writing : Bool) → isSet (c .copier .writing) ≡ writing
-        → left (cond copies (cond writing DrawsDestination ReadsSource) UsesMask) c w v
-        ≡ record { registers = c .registers; mask = usedUp (c .mask); copier = alternated copies (c .copier) w v; held = c .held }
-    unfolding left
-    frame-leaves false writing e = refl
-    frame-leaves true true e = rw e
-    frame-leaves true false e = rw e
-
-    register-leaves : (s d : Bool) → registerOf w is CopySource ≡ s → registerOf w is CopyDestination ≡ d → left (plan s d .effect) c w v ≡ afterRegister c w v
-    unfolding left afterRegister stores
-    register-leaves true d es ed = rw (eqb-true (code (registerOf w)) 10 es)
-    register-leaves false true es ed = rw (eqb-true (code (registerOf w)) 11 ed)
-    register-leaves false false es ed = rw (es, ed)
-
-    pub planned-leaves : next c w v ≡ left (planOf c w .effect) c w v
-    unfolding afterFrame
-    planned-leaves = go (ℕ-discrete (w .space) 1)
-      where
-        go : Dec (w .space ≡ 1) → next c w v ≡ left (planOf c w .effect) c w v
-        go (yes h) =
-            next-register c w v ok h
-            ∙ sym (ap (λ (p : Plan). left (p .effect) c w v) (register-plan h)
-            ∙ register-leaves (registerOf w is CopySource) (registerOf w is CopyDestination) refl refl)
-        go (no h) =
-            next-frame c w v ok h
-            ∙ sym (ap (λ (p : Plan). left (p .effect) c w v) (frame-plan h)
-            ∙ frame-leaves (isCopy (modeOf (c .registers .mode))) (isSet (c .copier .writing)) refl)
-
-    -- what the effect reads lies inside VRAM
-    pub planned-within : Within (planOf c w .effect) w (length v)
-    unfolding frameSpan
-    planned-within = go (ℕ-discrete (w .space) 1)
-      where
-        copy : (b : Bool) → w .address + 32 ≤ length v → Within (cond b DrawsDestination ReadsSource) w (length v)
-        copy true h = tt
-        copy false h = h
-
-        mode : (m : Mode) → framePlan m c w .first + framePlan m c w .width ≤ length v → Within (frameEffect m c) w (length v)
-        mode Simple h = tt
-        mode OpaqueStipple h = tt
-        mode TransparentStipple h = tt
-        mode OpaqueFill h = tt
-        mode TransparentFill h = tt
-        mode BlockStipple h = tt
-        mode BlockFill h = tt
-        mode Copy h = copy (isSet (c .copier .writing)) h
-        mode Unlisted h = tt
-
-        register : (s d : Bool) → plan s d .first + plan s d .width ≤ length v → Within (plan s d .effect) w (length v)
-        register true d h = h
-        register false true h = tt
-        register false false h = tt
-
-        reach : (p : Plan) → planOf c w ≡ p → p .first + p .width ≤ length v
-        reach p e = subst (λ (x : Plan). x .first + x .width ≤ length v) e planned-inside
-
-        go : Dec (w .space ≡ 1) → Within (planOf c w .effect) w (length v)
-        go (yes h) =
-            subst (λ (p : Plan). Within (p .effect) w (length v)) (sym (register-plan h))
-            (register (registerOf w is CopySource) (registerOf w is CopyDestination) (reach _ (register-plan h)))
-        go (no h) =
-            subst (λ (p : Plan). Within (p .effect) w (length v)) (sym (frame-plan h))
-            (mode (modeOf (c .registers .mode)) (reach _ (frame-plan h)))
 
   -- the whole copy buffer is drawn by 64 pixels
   pub planned-whole : isWhole (planOf c w .paint) ≡ true → planOf c w .width ≡ 64

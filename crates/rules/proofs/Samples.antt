@@ -1,8 +1,8 @@
 -- Samples S1 to S11 of the scope paper, each as it stands there, computed from the definitions. Assumes nothing.
 use mathlib.Core.Path.{_≡_, refl}
 use mathlib.Core.List.{List, [], _∷_, _++_}
-use Prim.Native.Nat.{ℕ, suc}
-use lib.ListN.{replicate, getD, take, drop}
+use Prim.Native.Nat.{ℕ}
+use lib.ListN.{replicate}
 use Rattle.raster.specs.Pixel.{bit, number, result, made, composite}
 use Rattle.raster.proofs.Samples.{s9}
 use Rattle.span.specs.Fragments.{byte, from, before, drawn, counted, listed}

@@ -1,6 +1,6 @@
 -- Scope paper, "Modes" and the first lines of "How one pixel is made": for each mode the first pixel, the width of the span,
 -- which pixels are enabled, and what each takes. Nothing here looks at the picture.
-use mathlib.Core.Bool.{Bool, true, false, cond, not, _&&_, _||_}
+use mathlib.Core.Bool.{Bool, true, false, cond, _&&_}
 use mathlib.Core.List.{List, [], _∷_}
 use Prim.Native.Nat.{ℕ, _+_, _/_, _%_, _^_}
 use lib.Dec.{eqb}

@@ -1,4 +1,4 @@
--- The plan of a write, as the code makes it. Nothing here has to be believed: proofs/Plans.antt shows that it is what Modes.antt,
+-- The plan of a write, as the code makes it. Nothing here has to be believed: proofs/Plan*.antt show that it is what Modes.antt,
 -- Refusal.antt and Writes.antt say.
 use mathlib.Core.Bool.{Bool, true, false, cond, not, _&&_, _||_}
 use mathlib.Core.List.{List, [], _∷_}

@@ -1,5 +1,5 @@
 -- Scope paper, "Numbers returned", 1 to 9. A refusal looks at the card, the write and the length of VRAM, never at the picture.
-use mathlib.Core.Bool.{Bool, true, false, cond, not, _&&_, _||_}
+use mathlib.Core.Bool.{Bool, false, cond, not, _&&_, _||_}
 use mathlib.Core.List.{List, [], _∷_}
 use Prim.Native.Nat.{ℕ, _+_, _/_, _%_, _^_}
 use lib.Dec.{eqb, ltb}

@@ -11,7 +11,7 @@ use lib.Seq.{ext-getD, getD-take, getD-drop, getD-append-add, getD-set-same, get
 use Rattle.raster.specs.Pixel.{bit, result, composite}
 use Rattle.raster.proofs.Made.{made-outside}
 use Rattle.span.specs.Fragments.{Fragment, stays, paint, painted, drawn, before, from, Bytes}
-use Rattle.span.proofs.Painted.{before-below, before-same, from-below, from-past, painted-below, painted-then, painted-five, painted-plane, painted-op}
+use Rattle.span.proofs.Painted.{before-below, before-same, from-below, from-past, painted-then, painted-five, painted-plane, painted-op}
 
 pub drawn-length : (op : ℕ) (f : ℕ → Fragment) (v : List ℕ) → length (drawn op f v) ≡ length v
 unfolding drawn
@@ -81,9 +81,6 @@ drawn-before-step op i f v h =
 pub drawn-before-min : (op n : ℕ) (f : ℕ → Fragment) (v : List ℕ) → drawn op (before (min n (length v)) f) v ≡ drawn op (before n f) v
 drawn-before-min op n f v = drawn-same op v (λ p l. before-same (min n (length v)) n f p (λ b. omega arith) (λ b. omega arith))
 
-pub drawn-before-all : (op n : ℕ) (f : ℕ → Fragment) (v : List ℕ) → length v ≤ n → drawn op (before n f) v ≡ drawn op f v
-drawn-before-all op n f v h = drawn-same op v (λ p l. before-below n f (omega arith))
-
 -- drawn with a, then with b, is drawn with the composite
 pub drawn-then : (a b : ℕ) (f : ℕ → Fragment) (v : List ℕ) → drawn b f (drawn a f v) ≡ drawn (composite a b) f v
 drawn-then a b f v =
@@ -99,11 +96,6 @@ drawn-five f v bytes = sym (drawn-is 5 f v v refl (λ i h. sym (painted-five (f 
 -- an operation whose composite with itself is 5 restores the picture when it is drawn twice
 pub drawn-restores : (op : ℕ) (f : ℕ → Fragment) (v : List ℕ) → composite op op ≡ 5 → Bytes v → drawn op f (drawn op f v) ≡ v
 drawn-restores op f v e bytes = drawn-then op op f v ∙ (ap (λ (a : ℕ). drawn a f v) e ∙ drawn-five f v bytes)
-
--- a picture of bytes stays one
-pub drawn-bytes : (op : ℕ) (f : ℕ → Fragment) (v : List ℕ) → Bytes v → Bytes (drawn op f v)
-drawn-bytes op f v bytes i h =
-    let l : i < length v = omega (arith, drawn-length op f v) in rw (drawn-at op f v i l) (painted-below op (f i) (getD v i 0) (bytes i l))
 
 -- where there is no fragment the byte stays
 pub drawn-kept : (op : ℕ) (f : ℕ → Fragment) (v : List ℕ) (i : ℕ) → i < length v → f i ≡ stays → getD (drawn op f v) i 0 ≡ getD v i 0

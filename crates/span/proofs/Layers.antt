@@ -1,36 +1,23 @@
 -- The picture after any list of layers: each law once, over any list. Assumes nothing.
-use mathlib.Core.Path.{_≡_, refl, ap, ap₂, sym, _∙_}
+use mathlib.Core.Path.{_≡_, refl, ap, sym, _∙_}
 use mathlib.Core.Bool.{Bool, true, false, not, cond}
-use mathlib.Core.List.{List, [], _∷_, _++_, map}
+use mathlib.Core.List.{List, [], _∷_, map}
 use mathlib.Core.Logic.{_⊎_, inl, inr}
-use Prim.Native.Nat.{ℕ, zero, suc, _+_, _≤_, _<_}
+use Prim.Native.Nat.{ℕ, _<_}
 use native.Mathlib.Omega.{arith}
-use lib.Dec.{eqb}
 use lib.ListN.{length, getD}
-use borrow.Author.Tests.{eq-eqb}
-use Rattle.raster.specs.Pixel.{bit, result, made, composite, Operations, only, _then_, compositeOf}
+use Rattle.raster.specs.Pixel.{bit, result, made, composite}
 use Rattle.raster.proofs.Bits.{same-bits}
 use Rattle.raster.proofs.Composite.{result-composite, result-five}
 use Rattle.raster.proofs.Made.{made-bit, made-below}
 use Rattle.span.specs.Fragments.{Fragment, stays, paint, painted, drawn, Bytes}
 use Rattle.span.specs.Layers.{drawnAll, Each, Pairs, Apart}
-use Rattle.span.proofs.Drawn.{drawn-length, drawn-at, drawn-is, drawn-none, drawn-then, drawn-five, drawn-bytes, drawn-kept, drawn-plane, drawn-op}
+use Rattle.span.proofs.Drawn.{drawn-length, drawn-at, drawn-is, drawn-none, drawn-then, drawn-five, drawn-kept, drawn-op}
 
 pub drawnAll-length : (op : ℕ) (fs : List (ℕ → Fragment)) (v : List ℕ) → length (drawnAll op fs v) ≡ length v
 unfolding drawnAll
 drawnAll-length op [] v = refl
 drawnAll-length op (f ∷ fs) v = drawnAll-length op fs (drawn op f v) ∙ drawn-length op f v
-
-pub drawnAll-bytes : (op : ℕ) (fs : List (ℕ → Fragment)) (v : List ℕ) → Bytes v → Bytes (drawnAll op fs v)
-unfolding drawnAll
-drawnAll-bytes op [] v b = b
-drawnAll-bytes op (f ∷ fs) v b = drawnAll-bytes op fs (drawn op f v) (drawn-bytes op f v b)
-
--- layers drawn after others
-pub drawnAll-append : (op : ℕ) (fs gs : List (ℕ → Fragment)) (v : List ℕ) → drawnAll op (fs ++ gs) v ≡ drawnAll op gs (drawnAll op fs v)
-unfolding drawnAll
-drawnAll-append op [] gs v = refl
-drawnAll-append op (f ∷ fs) gs v = drawnAll-append op fs gs (drawn op f v)
 
 -- a byte that no layer paints stays
 pub drawnAll-kept : (op : ℕ) (fs : List (ℕ → Fragment)) (v : List ℕ) (i : ℕ) → i < length v → Each (λ f. f i ≡ stays) fs
@@ -48,14 +35,6 @@ drawnAll-outside op [] v i k h e = refl
 drawnAll-outside op (f ∷ fs) v i k h (e, es) =
     drawnAll-outside op fs (drawn op f v) i k (rw drawn-length h) es
     ∙ (ap (λ (n : ℕ). bit n k) (drawn-at op f v i h) ∙ e (getD v i 0))
-
--- plane k of the new picture depends on plane k of the old picture alone
-pub drawnAll-plane : (op : ℕ) (fs : List (ℕ → Fragment)) (v v′ : List ℕ) (i k : ℕ) → length v ≡ length v′ → i < length v → k < 8
-    → bit (getD v i 0) k ≡ bit (getD v′ i 0) k → bit (getD (drawnAll op fs v) i 0) k ≡ bit (getD (drawnAll op fs v′) i 0) k
-unfolding drawnAll
-drawnAll-plane op [] v v′ i k l h hk e = e
-drawnAll-plane op (f ∷ fs) v v′ i k l h hk e =
-    drawnAll-plane op fs (drawn op f v) (drawn op f v′) i k (simp drawn-length l) (rw drawn-length h) hk (drawn-plane op f v v′ i k l h hk e)
 
 -- operations that give the same bits draw the same
 pub drawnAll-op : (a b : ℕ) (fs : List (ℕ → Fragment)) (v : List ℕ) → ((s d : Bool) → result a s d ≡ result b s d)

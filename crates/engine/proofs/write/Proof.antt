@@ -13,7 +13,9 @@ use Rattle.rules.specs.Plan.{planOf, judged, planned, left, Within, isWhole}
 use Rattle.rules.specs.Refusal.{refusal}
 use Rattle.rules.specs.declared.plan.Plan.{Plan}
 use Rattle.rules.proofs.Outcome.{count-refused, next-refused, picture-refused}
-use Rattle.rules.proofs.Plans.{planned-number, planned-inside, planned-within, planned-whole, planned-shows, planned-counts, planned-leaves}
+use Rattle.rules.proofs.Plans.{planned-whole}
+use Rattle.rules.proofs.PlanNumber.{planned-number, planned-inside}
+use Rattle.rules.proofs.PlanEffect.{planned-within, planned-shows, planned-counts, planned-leaves}
 use borrow.Author.Needs.{needs}
 use Rattle.engine.proofs.write.Statement.{statement}
 use Rattle.engine.proofs.write.Tie as tie

@@ -4,7 +4,7 @@ use Prim.Native.Nat.{ℕ, zero, suc, _%_, _*_, _<_}
 use native.Mathlib.Omega.{arith}
 use borrow.Author.Needs.{needs}
 use lib.Dec.{eqb}
-use Rattle.raster.specs.Pixel.{bit, number}
+use Rattle.raster.specs.Pixel.{number}
 use Rattle.raster.proofs.Bits.{bit-zero}
 use Rattle.raster.proofs.spread.Statement.{statement}
 use Rattle.raster.proofs.spread.Tie as tie

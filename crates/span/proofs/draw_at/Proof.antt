@@ -4,7 +4,7 @@ use Prim.Native.Nat.{ℕ, _-_, min}
 use native.Mathlib.Omega.{arith}
 use denote.Ref.{now}
 use lib.ListN.{length}
-use Rattle.span.specs.Fragments.{before, from, counted}
+use Rattle.span.specs.Fragments.{before, counted}
 use Rattle.span.specs.Strokes.{stroke, enabled}
 use Rattle.span.proofs.Drawn.{drawn-none}
 use Rattle.span.proofs.Painted.{from-below}

@@ -1,7 +1,7 @@
 -- `engine::pattern::half` meets its contract. The loop's invariant: the first k bytes are copied. Assumes nothing.
 use mathlib.Core.Path.{_≡_, refl}
 use mathlib.Core.List.{_++_}
-use Prim.Native.Nat.{ℕ, _+_, _-_, _≤_}
+use Prim.Native.Nat.{_+_, _-_, _≤_}
 use native.Mathlib.Omega.{arith}
 use lib.ListN.{drop, getD}
 use Rattle.span.specs.Fragments.{listed}

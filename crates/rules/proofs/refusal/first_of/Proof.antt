@@ -1,9 +1,8 @@
 -- `rules::refusal::first_of` meets its contract. The loop's invariant: the rows before i do not hold. Assumes nothing.
 use mathlib.Core.Path.{_≡_, refl, sym, _∙_}
-use Prim.Native.Nat.{ℕ, _-_, _≤_, _<_}
+use Prim.Native.Nat.{_-_, _≤_}
 use native.Mathlib.Omega.{arith}
 use lib.ListN.{drop, drop-of-length-le}
-use borrow.Author.Needs.{needs}
 use Rattle.rules.specs.Plan.{firstOf}
 use Rattle.rules.proofs.Rows.{first-step}
 use Rattle.rules.proofs.refusal.first_of.Statement.{statement}
