@@ -11,9 +11,9 @@ use Rattle.raster.specs.Pixel.{bit}
 use Rattle.span.specs.Fragments.{byte, listed}
 use Rattle.span.proofs.Listed.{listed-at, listed-same}
 use Rattle.card.specs.declared.Card.{Card}
-use Rattle.rules.specs.Plan.{takenBy, isWhole}
-use Rattle.rules.specs.declared.plan.Paint.{Paint}
-use Rattle.rules.specs.declared.plan.Paint.the-variants.{Words, Colours, Half, Whole}
+use Rattle.plan.specs.Plan.{takenBy, isWhole}
+use Rattle.plan.specs.declared.Paint.{Paint}
+use Rattle.plan.specs.declared.Paint.the-variants.{Words, Colours, Half, Whole}
 
 -- the eight bytes of two registers
 abbrev pub eight : ℕ → ℕ → List ℕ

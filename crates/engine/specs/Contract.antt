@@ -9,10 +9,10 @@ use Rattle.span.specs.declared.Tally.{Tally}
 use Rattle.card.specs.declared.Card.{Card}
 use Rattle.card.specs.declared.Write.{Write}
 use Rattle.rules.specs.Modes.{effective}
-use Rattle.rules.specs.Plan.{planned}
+use Rattle.plan.specs.Plan.{planned}
 use Rattle.rules.specs.Refusal.{refusal}
 use Rattle.rules.specs.Writes.{count, next, picture}
-use Rattle.rules.specs.declared.plan.Plan.{Plan}
+use Rattle.plan.specs.declared.Plan.{Plan}
 use Rattle.engine.specs.declared.Answer.{Answer}
 
 -- card c, write w and picture v gave answer r and picture v′

@@ -1,7 +1,7 @@
 // The next card, after an accepted write.
 ghost use mathlib.Core.Path.{_≡_};
 ghost use lib.ListN.{length};
-ghost use Rattle.rules.specs.Plan.{left as leftBy, Within};
+ghost use Rattle.plan.specs.Plan.{left as leftBy, Within};
 ghost use Rattle.rules.specs.Writes.{usedUp};
 use crate::copy;
 use card::CLEAR;
@@ -10,7 +10,7 @@ use card::Copier;
 use card::Mask;
 use card::SET;
 use card::Write;
-use rules::plan::Effect;
+use plan::Effect;
 
 // The pixel mask after a frame write: a one-shot one is used up.
 fn used_up(mask: Mask) -> u32

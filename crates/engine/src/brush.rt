@@ -6,11 +6,11 @@ ghost use lib.ListN.{getD};
 ghost use Rattle.span.specs.Spans.{piece};
 ghost use Rattle.span.specs.Strokes.{Draws};
 ghost use Rattle.rules.specs.Modes.{effective};
-ghost use Rattle.rules.specs.Plan.{isWhole, takenBy, planned};
+ghost use Rattle.plan.specs.Plan.{isWhole, takenBy, planned};
 use crate::pattern;
 use card::Card;
-use rules::plan::Paint;
-use rules::plan::Plan;
+use plan::Paint;
+use plan::Plan;
 use span::Strokes;
 
 // The 32 bytes whose byte j mod 32 pixel j takes. The whole copy buffer is drawn in halves.

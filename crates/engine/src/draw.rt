@@ -3,12 +3,12 @@ ghost use mathlib.Core.Path.{_≡_};
 ghost use mathlib.Core.Bool.{true};
 ghost use Prim.Native.Nat.{_+_, _≤_};
 ghost use lib.ListN.{length};
-ghost use Rattle.rules.specs.Plan.{isWhole};
+ghost use Rattle.plan.specs.Plan.{isWhole};
 ghost use Rattle.engine.specs.Contract.{Drew};
 use crate::brush;
 use card::Card;
-use rules::plan::Paint;
-use rules::plan::Plan;
+use plan::Paint;
+use plan::Plan;
 use span::Tally;
 
 // The span of a plan. One of which no pixel is enabled is not gone through.

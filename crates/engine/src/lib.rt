@@ -5,7 +5,6 @@ ghost use Rattle.engine.specs.Contract.{Written};
 ghost use Rattle.engine.specs.ReadBack.{backNumber, backPart};
 use card::Card;
 use card::Write;
-use rules::plan;
 use rules::refusal;
 use span::Tally;
 
@@ -27,7 +26,7 @@ pub fn write(card: Card, w: Write, vram: &mut [u8]) -> Answer
     ensures { λ r. ⌜ Written card w (now (vram .entry)) r (now (vram .exit)) ⌝ }
 {
     let p = plan::of(card, w);
-    let number = refusal::refuse(p, w, vram.len());
+    let number = plan::refusal::refuse(p, w, vram.len());
     if number != 0 {
         let tally = Tally { enabled: 0 };
         return Answer {

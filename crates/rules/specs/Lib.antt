@@ -3,4 +3,3 @@ pub mod Modes
 pub mod Refusal
 pub mod Writes
 pub mod Sequences
-pub mod Plan

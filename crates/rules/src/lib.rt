@@ -1,9 +1,7 @@
-// What a write means: its mode, the plan made of it, and the number that refuses it.
-// What each function means stands in specs/, under the headings of the scope paper.
+// What a write means: the definitions in specs/, under the headings of the scope paper, and the tests that other crates share.
 ghost use mathlib.Core.Path.{_≡_};
 ghost use Rattle.rules.specs.Modes.{modeOf, unlisted};
 
-pub mod plan;
 pub mod refusal;
 
 // The drawing modes.
@@ -20,7 +18,7 @@ pub enum Mode {
 }
 
 // The mode of a whole register value.
-fn mode_of(v: u32) -> Mode
+pub fn mode_of(v: u32) -> Mode
     ensures { λ r. ⌜ r ≡ modeOf v ⌝ }
 {
     match v {
@@ -37,7 +35,7 @@ fn mode_of(v: u32) -> Mode
 }
 
 // The register holds the code of no mode.
-fn is_unlisted(m: Mode) -> bool
+pub fn is_unlisted(m: Mode) -> bool
     ensures { λ r. ⌜ r ≡ unlisted m ⌝ }
 {
     match m {

@@ -1,10 +1,6 @@
-// Numbers 1 to 9: the tests of VRAM's length, of the space and of the span's end, and the first of all tests that holds.
+// Numbers 1 and 2, which traces use too.
 ghost use mathlib.Core.Path.{_≡_};
-ghost use Prim.Native.Nat.{_+_};
-ghost use lib.Dec.{ltb};
-ghost use Rattle.rules.specs.Plan.{judged, firstOf};
 ghost use Rattle.rules.specs.Refusal.{badLength, badSpace};
-use crate::plan::Plan;
 use card::Write;
 
 // The largest VRAM, in bytes.
@@ -34,47 +30,4 @@ pub fn bad_space(w: Write) -> bool
         return true;
     }
     ALL_LANES < w.lanes
-}
-
-// 8. It takes away and never adds, so nothing wraps.
-fn past_end(first: usize, width: u32, n: usize) -> bool
-    ensures { λ r. ⌜ r ≡ ltb n (first + width) ⌝ }
-{
-    if n < first {
-        return true;
-    }
-    n - first < width as usize
-}
-
-// The first number whose test holds, or 0.
-fn first_of(numbers: [u32; 9], tests: [bool; 9]) -> u32
-    ensures { λ r. ⌜ r ≡ firstOf numbers tests ⌝ }
-{
-    let mut i = 0;
-    while i < 9 {
-        if tests[i] {
-            return numbers[i];
-        }
-        i += 1;
-    }
-    0
-}
-
-// The number of a write from its plan, 0 where it is accepted. It sees the length of VRAM, and no byte of it.
-pub fn refuse(p: Plan, w: Write, n: usize) -> u32
-    ensures { λ r. ⌜ r ≡ judged p w n ⌝ }
-{
-    let faults = p.faults;
-    let tests = [
-        bad_length(n),
-        bad_space(w),
-        faults.lanes,
-        faults.register,
-        faults.mode,
-        faults.raster,
-        faults.address,
-        past_end(p.first, p.width, n),
-        faults.source,
-    ];
-    first_of([1, 2, 3, 4, 5, 6, 7, 8, 9], tests)
 }

@@ -9,13 +9,13 @@ use Rattle.span.specs.Spans.{spanned, enabledIn}
 use Rattle.card.specs.declared.Card.{Card}
 use Rattle.card.specs.declared.Write.{Write}
 use Rattle.rules.specs.Modes.{effective}
-use Rattle.rules.specs.Plan.{planOf, judged, planned, left, Within, isWhole}
+use Rattle.plan.specs.Plan.{planOf, judged, planned, left, Within, isWhole}
 use Rattle.rules.specs.Refusal.{refusal}
-use Rattle.rules.specs.declared.plan.Plan.{Plan}
+use Rattle.plan.specs.declared.Plan.{Plan}
 use Rattle.rules.proofs.Outcome.{count-refused, next-refused, picture-refused}
-use Rattle.rules.proofs.Plans.{planned-whole}
-use Rattle.rules.proofs.PlanNumber.{planned-number, planned-inside}
-use Rattle.rules.proofs.PlanEffect.{planned-within, planned-shows, planned-counts, planned-leaves}
+use Rattle.plan.proofs.Plans.{planned-whole}
+use Rattle.plan.proofs.PlanNumber.{planned-number, planned-inside}
+use Rattle.plan.proofs.PlanEffect.{planned-within, planned-shows, planned-counts, planned-leaves}
 use borrow.Author.Needs.{needs}
 use Rattle.engine.proofs.write.Statement.{statement}
 use Rattle.engine.proofs.write.Tie as tie

@@ -1,5 +1,5 @@
 -- `engine::after::left` meets its contract: each arm is the definition at that effect. Assumes nothing.
-use Rattle.rules.specs.Plan.{left}
+use Rattle.plan.specs.Plan.{left}
 use Rattle.rules.specs.Writes.{sourced}
 use borrow.Author.Needs.{needs}
 use Rattle.engine.proofs.after.left.Statement.{statement}

@@ -6,7 +6,7 @@ use Rattle.raster.specs.Pixel.{bit}
 use Rattle.span.specs.Spans.{piece}
 use Rattle.span.proofs.Spans.{draws}
 use Rattle.rules.specs.Modes.{effective}
-use Rattle.rules.specs.Plan.{planned}
+use Rattle.plan.specs.Plan.{planned}
 use Rattle.engine.proofs.Sources.{half-at, whole-takes}
 use borrow.Author.Needs.{needs}
 use Rattle.engine.proofs.brush.half_strokes.Statement.{statement}

@@ -1,7 +1,7 @@
 -- `engine::brush::strokes` meets its contract. Assumes nothing.
 use mathlib.Core.Path.{refl}
 use Rattle.rules.specs.Modes.{effective}
-use Rattle.rules.specs.Plan.{planned}
+use Rattle.plan.specs.Plan.{planned}
 use Rattle.span.proofs.Spans.{draws}
 use borrow.Author.Needs.{needs}
 use Rattle.engine.proofs.brush.strokes.Statement.{statement}

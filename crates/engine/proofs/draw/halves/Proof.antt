@@ -11,7 +11,7 @@ use Rattle.span.proofs.Counted.{counted-le}
 use Rattle.span.proofs.Drawn.{drawn-length}
 use Rattle.span.proofs.Spans.{drew, cut-shows, cut-counts}
 use Rattle.rules.specs.Modes.{effective}
-use Rattle.rules.specs.Plan.{planned}
+use Rattle.plan.specs.Plan.{planned}
 use borrow.Author.Needs.{needs}
 use Rattle.engine.proofs.draw.halves.Statement.{statement}
 use Rattle.engine.proofs.draw.halves.Tie as tie

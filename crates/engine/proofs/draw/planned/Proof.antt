@@ -13,10 +13,10 @@ use Rattle.span.proofs.Counted.{counted-none}
 use Rattle.span.proofs.Drawn.{drawn-none}
 use Rattle.span.proofs.Spans.{spanned-off, drew}
 use Rattle.rules.specs.Modes.{effective}
-use Rattle.rules.specs.Plan.{planned, isWhole}
-use Rattle.rules.specs.declared.plan.Paint.{Paint}
-use Rattle.rules.specs.declared.plan.Paint.the-variants.{Words, Colours, Half, Whole}
-use Rattle.rules.proofs.plan.Paint as P
+use Rattle.plan.specs.Plan.{planned, isWhole}
+use Rattle.plan.specs.declared.Paint.{Paint}
+use Rattle.plan.specs.declared.Paint.the-variants.{Words, Colours, Half, Whole}
+use Rattle.plan.proofs.Paint as P
 use borrow.Author.Needs.{needs}
 use Rattle.engine.proofs.draw.planned.Statement.{statement}
 use Rattle.engine.proofs.draw.planned.Tie as tie

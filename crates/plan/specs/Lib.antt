@@ -1,0 +1,2 @@
+-- The plan of a write.
+pub mod Plan

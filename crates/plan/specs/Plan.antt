@@ -1,0 +1,205 @@
+-- The plan of a write, as the code makes it. Nothing here has to be believed: proofs/Plan*.antt show that it is what the definitions of
+-- `rules` say.
+use mathlib.Core.Bool.{Bool, true, false, cond, not, _&&_, _||_}
+use mathlib.Core.List.{List, [], _∷_}
+use Prim.Native.Nat.{ℕ, _+_, _-_, _/_, _%_, _^_, _≤_}
+use lib.Bits.{bitAnd}
+use lib.Dec.{eqb, ltb}
+use lib.ListN.{getD, take, drop}
+use Rattle.raster.specs.Pixel.{bit}
+use Rattle.span.specs.Fragments.{byte}
+use Rattle.span.specs.Spans.{Span, span}
+use Rattle.card.specs.Registers.{rowAt, stores, isSet, _is_}
+use Rattle.card.specs.declared.Card.{Card}
+use Rattle.card.specs.declared.Copier.{Copier}
+use Rattle.card.specs.declared.Write.{Write}
+use Rattle.card.specs.declared.Register.{Register}
+use Rattle.card.specs.declared.Register.the-variants.{Mode as ModeRegister, RasterOperation, PixelShift, CopySource, CopyDestination, Missing}
+use Rattle.rules.specs.Modes.{modeOf, unlisted, isBlock, isCopy, colour, fillFirst, frameSpan, registerOf}
+use Rattle.rules.specs.Refusal.{badLength, badSpace, firstHolding}
+use Rattle.rules.specs.Writes.{usedUp, sourced}
+use Rattle.rules.specs.declared.Mode.{Mode}
+use Rattle.rules.specs.declared.Mode.the-variants.{Simple, OpaqueStipple, TransparentStipple, OpaqueFill, TransparentFill, BlockStipple, BlockFill, Copy, Unlisted}
+use Rattle.plan.specs.declared.Effect.{Effect}
+use Rattle.plan.specs.declared.Effect.the-variants.{UsesMask, ReadsSource, DrawsDestination, Stores, Loads, Unloads}
+use Rattle.plan.specs.declared.Faults.{Faults}
+use Rattle.plan.specs.declared.Paint.{Paint}
+use Rattle.plan.specs.declared.Paint.the-variants.{Words, Colours, Half, Whole}
+use Rattle.plan.specs.declared.Plan.{Plan}
+
+abbrev ones : ℕ
+ones = 2 ^ 32 - 1
+
+-- what is at fault with a frame write, and with a register write
+abbrev pub frameFaults : Mode → Card → Write → Faults
+frameFaults m c w =
+    record {
+      lanes = not (eqb (w .lanes) 15) && not (eqb (c .registers .mode) 0);
+      register = false;
+      mode = unlisted m;
+      raster = ltb 15 (c .registers .raster);
+      address = not (eqb (w .address % cond (isCopy m) 8 4) 0);
+      source = false;
+    }
+
+abbrev pub registerFaults : Register → Card → Write → Faults
+registerFaults g c w =
+    record {
+      lanes = not (eqb (w .lanes) 15);
+      register = g is Missing;
+      mode = unlisted (modeOf (c .registers .mode)) || (g is ModeRegister && unlisted (modeOf (w .«data»)));
+      raster = ltb 15 (c .registers .raster) || (g is RasterOperation && not (eqb (w .«data» / 2 ^ 8 % 16) 0))
+          || (g is PixelShift && not (eqb (w .«data» % 16) 0));
+      address = (g is CopySource || g is CopyDestination) && not (eqb (w .«data» % 64) 0);
+      source = g is CopyDestination && not (isSet (c .copier .loaded));
+    }
+
+-- the word whose bit j mod 32 enables pixel j
+abbrev pub enableOf : Mode → Card → Write → ℕ
+enableOf Simple c w = bitAnd (w .lanes) (c .mask .bits)
+enableOf OpaqueStipple c w = c .mask .bits
+enableOf TransparentStipple c w = w .«data»
+enableOf OpaqueFill c w = ones
+enableOf TransparentFill c w = c .registers .fill
+enableOf BlockStipple c w = w .«data»
+enableOf BlockFill c w = c .registers .fill
+enableOf Copy c w = cond (isSet (c .copier .writing)) (w .«data») 0
+enableOf Unlisted c w = 0
+
+abbrev pub paintOf : Mode → Card → Write → Paint
+paintOf Simple c w = Words ones (w .«data») 0 0
+paintOf OpaqueStipple c w = Words (w .«data») (c .registers .foreground) (c .registers .background) (w .address)
+paintOf TransparentStipple c w = Words ones (c .registers .foreground) 0 (w .address)
+paintOf OpaqueFill c w = Words (c .registers .fill) (c .registers .foreground) (c .registers .background) (fillFirst w)
+paintOf TransparentFill c w = Words ones (c .registers .foreground) 0 (fillFirst w)
+paintOf BlockStipple c w = Colours (w .address)
+paintOf BlockFill c w = Colours (fillFirst w)
+paintOf Copy c w = Half
+paintOf Unlisted c w = Half
+
+abbrev pub frameEffect : Mode → Card → Effect
+frameEffect m c = cond (isCopy m) (cond (isSet (c .copier .writing)) DrawsDestination ReadsSource) UsesMask
+
+-- of a frame write
+abbrev pub framePlan : Mode → Card → Write → Plan
+framePlan m c w =
+    record {
+      faults = frameFaults m c w;
+      first = frameSpan m c w .first;
+      width = frameSpan m c w .width;
+      op = cond (isBlock m) 3 (c .registers .raster % 16);
+      enable = enableOf m c w;
+      paint = paintOf m c w;
+      effect = frameEffect m c;
+    }
+
+-- the same from what the code has in hand: in any mode but copy, and in copy mode, whose boundary is another
+abbrev pub drawingPlan : Faults → ℕ → ℕ → ℕ → ℕ → Paint → Plan
+drawingPlan faults first width op enable paint =
+    record { faults = faults; first = first; width = width; op = op; enable = enable; paint = paint; effect = UsesMask }
+
+abbrev pub halvedPlan : Faults → ℕ → ℕ → ℕ → Effect → Plan
+halvedPlan faults first op enable effect =
+    record { faults = faults; first = first; width = 32; op = op; enable = enable; paint = Half; effect = effect }
+
+abbrev pub copyPlan : Faults → ℕ → Write → ℕ → Plan
+copyPlan f writing w op =
+    record {
+      faults = record {
+        lanes = f .lanes;
+        register = f .register;
+        mode = f .mode;
+        raster = f .raster;
+        address = not (eqb (w .address % 8) 0);
+        source = f .source;
+      };
+      first = w .address;
+      width = 32;
+      op = op;
+      enable = cond (isSet writing) (w .«data») 0;
+      paint = Half;
+      effect = cond (isSet writing) DrawsDestination ReadsSource;
+    }
+
+-- of a register write: the 64-byte copy reaches 64 pixels, every other none
+abbrev pub storingPlan : Faults → ℕ → Register → ℕ → Plan
+storingPlan faults op g v =
+    record { faults = faults; first = 0; width = 0; op = op; enable = 0; paint = Half; effect = Stores g v }
+
+abbrev pub copyingPlan : Faults → ℕ → ℕ → ℕ → Effect → Plan
+copyingPlan faults op a enable effect =
+    record { faults = faults; first = a; width = 64; op = op; enable = enable; paint = Whole; effect = effect }
+
+abbrev pub registerPlan : Register → Card → Write → Plan
+registerPlan g c w =
+    let faults = registerFaults g c w in
+    let op = c .registers .raster % 16 in
+    cond (g is CopySource) (copyingPlan faults op (w .«data») 0 Loads)
+    (cond (g is CopyDestination) (copyingPlan faults op (w .«data») ones Unloads)
+    (storingPlan faults op g (bitAnd (w .«data») (rowAt (w .address) .kept))))
+
+unfoldable pub planOf : Card → Write → Plan
+planOf c w = cond (eqb (w .space) 1) (registerPlan (registerOf w) c w) (framePlan (modeOf (c .registers .mode)) c w)
+
+-- the number of a write whose plan is p
+unfoldable pub judged : Plan → Write → ℕ → ℕ
+judged p w n =
+    firstHolding
+    ((1, badLength n)
+    ∷ (2, badSpace w)
+    ∷ (3, p .faults .lanes)
+    ∷ (4, p .faults .register)
+    ∷ (5, p .faults .mode)
+    ∷ (6, p .faults .raster)
+    ∷ (7, p .faults .address)
+    ∷ (8, ltb n (p .first + p .width))
+    ∷ (9, p .faults .source)
+    ∷ [])
+
+-- the same over numbers and tests in two lists of one length, as the code has them
+abbrev pub firstOf : List ℕ → List Bool → ℕ
+firstOf [] bs = 0
+firstOf (k ∷ ks) [] = 0
+firstOf (k ∷ ks) (b ∷ bs) = cond b k (firstOf ks bs)
+
+-- what pixel j takes
+abbrev pub takenBy : Paint → Card → ℕ → ℕ
+takenBy (Words pick ink paper at) c j = cond (bit pick (j % 32)) (byte ink ((at + j) % 4)) (byte paper ((at + j) % 4))
+takenBy (Colours at) c j = colour c (at + j)
+takenBy Half c j = getD (c .copier .buffer) (j % 32) 0
+takenBy Whole c j = getD (c .copier .buffer) j 0
+
+-- the span that a plan draws
+abbrev pub planned : Plan → Card → Span
+planned p c = span (p .first) (p .width) (λ j. bit (p .enable) (j % 32)) (takenBy (p .paint) c)
+
+-- the card that it leaves
+abbrev withCopier : Card → Copier → Card
+withCopier c k = record { registers = c .registers; mask = c .mask; copier = k; held = c .held }
+
+abbrev masked : Card → Copier → Card
+masked c k = record { registers = c .registers; mask = usedUp (c .mask); copier = k; held = c .held }
+
+unfoldable pub left : Effect → Card → Write → List ℕ → Card
+left UsesMask c w v = masked c (c .copier)
+left ReadsSource c w v = masked c (record { buffer = sourced (c .copier .buffer) w v; loaded = 0; writing = 1 })
+left DrawsDestination c w v = masked c (record { buffer = c .copier .buffer; loaded = c .copier .loaded; writing = 0 })
+left (Stores g x) c w v = stores c g x
+left Loads c w v = withCopier c (record { buffer = take 64 (drop (w .«data») v); loaded = 1; writing = c .copier .writing })
+left Unloads c w v = withCopier c (record { buffer = c .copier .buffer; loaded = 0; writing = c .copier .writing })
+
+-- what the effect reads of a VRAM of n bytes lies inside it
+abbrev pub Within : Effect → Write → ℕ → Type 0
+Within UsesMask w n = Unit
+Within ReadsSource w n = w .address + 32 ≤ n
+Within DrawsDestination w n = Unit
+Within (Stores g x) w n = Unit
+Within Loads w n = w .«data» + 64 ≤ n
+Within Unloads w n = Unit
+
+-- the whole copy buffer is taken
+abbrev pub isWhole : Paint → Bool
+isWhole (Words pick ink paper at) = false
+isWhole (Colours at) = false
+isWhole Half = false
+isWhole Whole = true
