@@ -22,7 +22,7 @@ abbrev pub row : ℕ → Register → ℕ → ℕ → Bool → Row
 row offset register kept reset readable =
     record { offset = offset; register = register; kept = kept; reset = reset; readable = readable }
 
--- offset, what it holds, the bits kept, at reset, readable
+-- offset, what it holds, the bits kept, at reset, readable. The 64-byte copy holds nothing, so its bits and its reset are not used
 unfoldable pub table : List Row
 table =
     row 0x0020 Foreground ones 0 true

@@ -23,6 +23,6 @@ pub record Written (c : Card) (w : Write) (v : List ℕ) (r : Answer) (v′ : Li
   pub shows : v′ ≡ picture c w v
 
 -- plan p on card c and picture v gave answer r and picture v′: how `write` draws, not what has to be believed
-pub record Drew (p : Plan) (c : Card) (v : List ℕ) (r : Tally) (v′ : List ℕ) : Type 0 where
+pub record CarriedOut (p : Plan) (c : Card) (v : List ℕ) (r : Tally) (v′ : List ℕ) : Type 0 where
   pub shows : v′ ≡ drawn (p .op) (spanned (effective c) (planned p c)) v
   pub counts : r .enabled ≡ enabledIn (planned p c)

@@ -4,7 +4,7 @@ ghost use mathlib.Core.Bool.{true};
 ghost use Prim.Native.Nat.{_+_, _≤_};
 ghost use lib.ListN.{length};
 ghost use Rattle.plan.specs.Plan.{isWhole};
-ghost use Rattle.engine.specs.Contract.{Drew};
+ghost use Rattle.engine.specs.Contract.{CarriedOut};
 use crate::brush;
 use card::Card;
 use plan::Paint;
@@ -14,7 +14,7 @@ use span::Tally;
 // The span of a plan. One of which no pixel is enabled is not gone through.
 pub(crate) fn planned(p: Plan, card: Card, vram: &mut [u8]) -> Tally
     requires { ⌜ (p .first + p .width ≤ length (now vram)) × (isWhole (p .paint) ≡ true → p .width ≡ 64) ⌝ }
-    ensures { λ r. ⌜ Drew p card (now (vram .entry)) r (now (vram .exit)) ⌝ }
+    ensures { λ r. ⌜ CarriedOut p card (now (vram .entry)) r (now (vram .exit)) ⌝ }
 {
     if p.enable == 0 {
         return Tally { enabled: 0 };
@@ -32,7 +32,7 @@ pub(crate) fn planned(p: Plan, card: Card, vram: &mut [u8]) -> Tally
 // The whole copy buffer, in two halves.
 fn halves(p: Plan, card: Card, vram: &mut [u8]) -> Tally
     requires { ⌜ (p .first + p .width ≤ length (now vram)) × (isWhole (p .paint) ≡ true) × (p .width ≡ 64) ⌝ }
-    ensures { λ r. ⌜ Drew p card (now (vram .entry)) r (now (vram .exit)) ⌝ }
+    ensures { λ r. ⌜ CarriedOut p card (now (vram .entry)) r (now (vram .exit)) ⌝ }
 {
     let first = p.first;
     let low = brush::half_strokes(p, card, first, 0);

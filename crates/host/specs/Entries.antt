@@ -1,5 +1,5 @@
 -- What each entry promises: its answer, and what it leaves of the card, the picture and the buffer that were lent to it, by the
--- definitions of `engine` and `trace` at what was handed in.
+-- definitions of `rules` and `trace` at what was handed in.
 use mathlib.Core.Path.{_≡_}
 use mathlib.Core.List.{List}
 use Prim.Native.Nat.{ℕ, _*_}

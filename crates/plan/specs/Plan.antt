@@ -177,13 +177,13 @@ planned p c = span (p .first) (p .width) (λ j. bit (p .enable) (j % 32)) (taken
 abbrev withCopier : Card → Copier → Card
 withCopier c k = record { registers = c .registers; mask = c .mask; copier = k; held = c .held }
 
-abbrev masked : Card → Copier → Card
-masked c k = record { registers = c .registers; mask = usedUp (c .mask); copier = k; held = c .held }
+abbrev used : Card → Copier → Card
+used c k = record { registers = c .registers; mask = usedUp (c .mask); copier = k; held = c .held }
 
 unfoldable pub left : Effect → Card → Write → List ℕ → Card
-left UsesMask c w v = masked c (c .copier)
-left ReadsSource c w v = masked c (record { buffer = sourced (c .copier .buffer) w v; loaded = 0; writing = 1 })
-left DrawsDestination c w v = masked c (record { buffer = c .copier .buffer; loaded = c .copier .loaded; writing = 0 })
+left UsesMask c w v = used c (c .copier)
+left ReadsSource c w v = used c (record { buffer = sourced (c .copier .buffer) w v; loaded = 0; writing = 1 })
+left DrawsDestination c w v = used c (record { buffer = c .copier .buffer; loaded = c .copier .loaded; writing = 0 })
 left (Stores g x) c w v = stores c g x
 left Loads c w v = withCopier c (record { buffer = take 64 (drop (w .«data») v); loaded = 1; writing = c .copier .writing })
 left Unloads c w v = withCopier c (record { buffer = c .copier .buffer; loaded = 0; writing = c .copier .writing })

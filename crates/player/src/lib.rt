@@ -11,7 +11,7 @@ pub struct Number {
     pub value: u32,
 }
 
-// What replaying a trace answers: what the run answers, and the VRAM length of the trace's header, 0 where it is no trace.
+// What replaying a trace answers: what the run answers, and the VRAM length of the trace's header; 0 where it is no trace or the VRAM lent is shorter.
 pub struct Played {
     pub number: u32,
     pub entries: u32,
@@ -24,7 +24,7 @@ const NONE: Number = Number {
     value: 0,
 };
 
-// A decimal number of one to seven digits.
+// A decimal number below 10,000,000.
 pub fn decimal(text: &[u8]) -> Number
     ensures { λ r. ⌜ r ≡ decimalOf (now (text .entry)) ⌝ }
 {
@@ -94,7 +94,7 @@ fn digit_of(c: u8) -> u32
     16
 }
 
-// The whole trace from reset on the front of VRAM, which is lent as zeros and as long as any trace may ask.
+// The whole trace from reset on the front of VRAM.
 pub fn play(bytes: &[u8], held: u8, vram: &mut [u8]) -> Played
     ensures { λ r. ⌜ (r ≡ played (now (bytes .entry)) held (now (vram .entry)))
         × (now (vram .exit) ≡ pictured (now (bytes .entry)) held (now (vram .entry))) ⌝ }

@@ -1,4 +1,4 @@
--- What a write means: scope paper, "Numbers returned", "How one pixel is made" and "Modes".
+-- What a write means: scope paper, "Numbers returned", "How one pixel is made" and "Modes", and of "Registers" what a write leaves in them.
 pub mod Modes
 pub mod Refusal
 pub mod Writes

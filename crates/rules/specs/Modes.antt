@@ -45,7 +45,7 @@ modeIn (m ∷ ms) v = cond (eqb v (m .code)) (m .mode) (modeIn ms v)
 unfoldable pub modeOf : ℕ → Mode
 modeOf v = modeIn modes v
 
--- the register holds the code of no mode
+-- no listed code
 abbrev pub unlisted : Mode → Bool
 unlisted Simple = false
 unlisted OpaqueStipple = false

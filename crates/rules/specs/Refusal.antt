@@ -16,12 +16,12 @@ abbrev pub names : Write → Register → Bool
 names w g = eqb (w .space) 1 && registerOf w is g
 
 -- the largest VRAM, in bytes
-abbrev pub largest : ℕ
-largest = 2097152
+abbrev pub largestVram : ℕ
+largestVram = 2097152
 
 -- 1: VRAM length is 0, no multiple of 64, or over 2,097,152
 unfoldable pub badLength : ℕ → Bool
-badLength n = eqb n 0 || not (eqb (n % 64) 0) || ltb largest n
+badLength n = eqb n 0 || not (eqb (n % 64) 0) || ltb largestVram n
 
 -- 2: space is not 0 (frame) or 1 (register), or lanes exceed 15
 unfoldable pub badSpace : Write → Bool

@@ -1,4 +1,4 @@
--- Several writes in a row, and one write drawn with several operations: what demands 2 and 3 speak of.
+-- Several writes in a row, and one write drawn with several operations: what demands 2 and 3 speak of, and the caliper of many writes.
 use mathlib.Core.Path.{_≡_}
 use mathlib.Core.Bool.{Bool, true, false, cond, not, _&&_}
 use mathlib.Core.List.{List, [], _∷_}

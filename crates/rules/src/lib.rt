@@ -34,7 +34,7 @@ pub fn mode_of(v: u32) -> Mode
     }
 }
 
-// The register holds the code of no mode.
+// A value that is no listed code.
 pub fn is_unlisted(m: Mode) -> bool
     ensures { λ r. ⌜ r ≡ unlisted m ⌝ }
 {

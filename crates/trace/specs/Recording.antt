@@ -1,4 +1,4 @@
--- Scope paper, "Traces", the last paragraph: starting a trace in a buffer, and appending to it.
+-- Scope paper, "Traces", the third paragraph: starting a trace in a buffer, and appending to it.
 -- A refused one returns length 0, and the buffer keeps every byte.
 use mathlib.Core.Bool.{cond, not, _||_}
 use mathlib.Core.List.{List, [], _∷_, _++_}

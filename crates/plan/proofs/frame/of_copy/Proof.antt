@@ -1,9 +1,9 @@
--- `plan::of_copy` meets its contract. Assumes nothing.
+-- `plan::frame::of_copy` meets its contract. Assumes nothing.
 use mathlib.Core.Path.{_∙_}
 use borrow.Author.Tests.{eq-eqb, ne-eqb}
 use borrow.Author.Needs.{needs}
-use Rattle.plan.proofs.of_copy.Statement.{statement}
-use Rattle.plan.proofs.of_copy.Tie as tie
+use Rattle.plan.proofs.frame.of_copy.Statement.{statement}
+use Rattle.plan.proofs.frame.of_copy.Tie as tie
 
 cast-first : tie.Need-cast-first
 cast-first c = search needs

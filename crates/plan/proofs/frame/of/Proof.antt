@@ -1,9 +1,9 @@
--- `plan::of_frame` meets its contract: each arm is the definition at that mode. Assumes nothing.
+-- `plan::frame::of` meets its contract: each arm is the definition at that mode. Assumes nothing.
 use mathlib.Core.Path.{_∙_}
 use Rattle.rules.specs.Modes.{frameSpan}
 use borrow.Author.Needs.{needs}
-use Rattle.plan.proofs.of_frame.Statement.{statement}
-use Rattle.plan.proofs.of_frame.Tie as tie
+use Rattle.plan.proofs.frame.of.Statement.{statement}
+use Rattle.plan.proofs.frame.of.Tie as tie
 
 mode-of-requires : tie.Need-mode-of-requires
 mode-of-requires c κs = search needs
@@ -134,8 +134,8 @@ returns-9 : tie.Need-returns-9
 unfolding frameSpan
 returns-9 c = c .drawing8 .ensures ∙ rw (← (c .before .before .before .before .before .before .before .before .before .before .mode-of .ensures), c .before .enum-told9 .given .1, c .before .before .before .before .before .and .ensures)
 
-pub of-frame-spec : {M : Type 1} → statement M
-of-frame-spec =
+pub of-spec : {M : Type 1} → statement M
+of-spec =
     tie.close
     (tie.spec
     mode-of-requires

@@ -1,10 +1,10 @@
--- `plan::of_register` meets its contract: each arm is the definition at that register. Assumes nothing.
+-- `plan::register::of` meets its contract: each arm is the definition at that register. Assumes nothing.
 use Rattle.plan.proofs.Arms.{stores-arm, loads-arm, unloads-arm}
 use Rattle.plan.proofs.Others.{plain}
 use Rattle.rules.proofs.Tests.{or-false, not-not}
 use borrow.Author.Needs.{needs}
-use Rattle.plan.proofs.of_register.Statement.{statement}
-use Rattle.plan.proofs.of_register.Tie as tie
+use Rattle.plan.proofs.register.of.Statement.{statement}
+use Rattle.plan.proofs.register.of.Tie as tie
 
 find-requires : tie.Need-find-requires
 find-requires c κs = search needs
@@ -128,8 +128,8 @@ returns-7 c =
     (rw (c .before .before .before .is-unlisted .ensures, c .before .before .before .before .mode-of .ensures) (simp (p .0, p .1, p .2, p .3, p .4, p .5, or-false)))
     (p .3) (p .4) (c .storing5 .ensures)
 
-pub of-register-spec : {M : Type 1} → statement M
-of-register-spec =
+pub of-spec : {M : Type 1} → statement M
+of-spec =
     tie.close
     (tie.spec
     find-requires
