@@ -116,7 +116,7 @@ index Missing = 0
 abbrev pub isSet : ℕ → Bool
 isSet mark = not (eqb mark 0)
 
--- v stored in one of the registers
+-- v stored in one of the registers; `is BlockColour 0` tells any of the block colours, and `index` which
 abbrev pub storedIn : Registers → Register → ℕ → Registers
 storedIn r g v =
     record {

@@ -50,7 +50,7 @@ pub struct Copier {
     pub writing: u32,
 }
 
-// The whole state, in parts. Every field is a word or an array of whole words, so no byte of it is padding and every pattern of bytes
+// The whole state, in parts. Every field is a word or an array of a multiple of four bytes, so no byte of it is padding and every pattern of bytes
 // is a card; a mark is set where its word is not 0. No write can change the held planes, bits 7:0 of `held`.
 #[repr(C)]
 pub struct Card {
@@ -65,7 +65,12 @@ pub const SET: u32 = 1;
 
 pub const CLEAR: u32 = 0;
 
-// One write, as the bus delivers it: space 0 is the frame, 1 the registers. Lanes, the scope paper's word, are the byte enables of the bus.
+// The spaces of a write.
+pub const FRAME: u8 = 0;
+
+pub const REGISTERS: u8 = 1;
+
+// One write, as the bus delivers it, to the frame or to the registers. Lanes, the scope paper's word, are the byte enables of the bus.
 pub struct Write {
     pub space: u8,
     pub lanes: u8,
@@ -79,7 +84,8 @@ pub struct Reading {
     pub value: u32,
 }
 
-const ONES: u32 = 0xFFFF_FFFF;
+// All 32 bits.
+pub const ONES: u32 = 0xFFFF_FFFF;
 
 impl Card {
     // Every register and mark at reset, with no plane held.

@@ -1,6 +1,7 @@
 // The register table: the rows of specs/Registers.antt.
 ghost use mathlib.Core.Path.{_≡_};
 ghost use Rattle.card.specs.Registers.{row, rowAt};
+use crate::ONES;
 use crate::Register;
 
 // A row of the register table. `kept` is the mask of the bits that a write keeps and a read shows.
@@ -11,8 +12,6 @@ pub struct Row {
     pub reset: u32,
     pub readable: bool,
 }
-
-const ONES: u32 = 0xFFFF_FFFF;
 
 fn listed(offset: u32, register: Register, kept: u32, reset: u32, readable: bool) -> Row
     ensures { λ r. ⌜ r ≡ row offset register kept reset readable ⌝ }

@@ -1,5 +1,5 @@
 -- Beyond demand 3's single draw: a caliper is a handful of writes, and made again from the same card the whole list takes it off.
--- Register writes and refused ones may be among them. Assumes nothing.
+-- Register writes and refused ones may be among them. `taken-off` assumes a picture of bytes (`Bytes`).
 use mathlib.Core.Path.{_≡_, refl, ap, ap₂, sym, subst, _∙_}
 use mathlib.Core.Bool.{Bool, true, false, cond, not, _&&_}
 use mathlib.Core.List.{List, [], _∷_}

@@ -7,9 +7,10 @@ use lib.Dec.{eqb}
 use Rattle.span.specs.Fragments.{counted}
 use Rattle.span.specs.Layers.{summed}
 use Rattle.span.proofs.Counted.{counted-le}
-use Rattle.card.specs.Registers.{code}
+use Rattle.card.specs.Registers.{_is_}
 use Rattle.card.specs.declared.Card.{Card}
 use Rattle.card.specs.declared.Write.{Write}
+use Rattle.card.specs.declared.Register.the-variants.{CopySource, CopyDestination}
 use Rattle.span.specs.Spans.{Span, enabledIn}
 use Rattle.rules.specs.Modes.{modeOf, registerOf, frameSpan, spansOf}
 use Rattle.rules.specs.Writes.{accepted, count}
@@ -39,7 +40,7 @@ pub spans-enable : (c : Card) (w : Write) → summed enabledIn (spansOf c w) ≤
 unfolding spansOf
 spans-enable c w =
     one-of (eqb (w .space) 1) _ _
-    (one-of (eqb (code (registerOf w)) 10) _ _ (one 64 (λ i. false) (omega arith)) (one-of (eqb (code (registerOf w)) 11) _ [] (one 64 (λ i. true) (omega arith)) (omega arith)))
+    (one-of (registerOf w is CopySource) _ _ (one 64 (λ i. false) (omega arith)) (one-of (registerOf w is CopyDestination) _ [] (one 64 (λ i. true) (omega arith)) (omega arith)))
     (one _ (frameSpan (modeOf (c .registers .mode)) c w .on) (frame-width (modeOf (c .registers .mode)) c w))
 
 pub count-bound : (c : Card) (w : Write) (n : ℕ) → count c w n ≤ 2048

@@ -1,5 +1,5 @@
 -- Demand 3: drawing one write with a list of operations is drawing it once with their composite, for every card, picture and write,
--- refused ones and register writes included; and the four operations that restore every picture. Assumes nothing.
+-- refused ones and register writes included; and the four operations that restore every picture. `restores` assumes a picture of bytes (`Bytes`).
 use mathlib.Core.Path.{_≡_, refl, ap, ap₂, sym, _∙_}
 use mathlib.Core.Bool.{Bool, true, false, cond, not, _&&_}
 use mathlib.Core.List.{List, [], _∷_, map}
@@ -16,13 +16,14 @@ use Rattle.raster.proofs.Operations.{undoes-itself}
 use Rattle.span.specs.Fragments.{Fragment, Bytes}
 use Rattle.span.specs.Layers.{drawnAll, Apart}
 use Rattle.span.proofs.Layers.{drawnAll-op, drawnAll-composes, drawnAll-restores}
-use Rattle.card.specs.Registers.{code}
+use Rattle.card.specs.Registers.{_is_}
 use Rattle.card.specs.declared.Card.{Card}
 use Rattle.card.specs.declared.Write.{Write}
+use Rattle.card.specs.declared.Register.the-variants.{CopySource, CopyDestination}
 use Rattle.span.specs.Spans.{Span, spanned}
 use Rattle.rules.specs.Modes.{modeOf, isBlock, effective, registerOf, frameSpan, spansOf}
 use Rattle.rules.specs.Refusal.{badLanes, badMode, badRaster, offBoundary, outside, unloaded, refusal}
-use Rattle.rules.specs.Writes.{accepted, count, layers, operation, picture}
+use Rattle.rules.specs.Writes.{accepted, count, layers, inBlockMode, operation, picture}
 use Rattle.rules.specs.Sequences.{withOperation, drawnWith, drawnWithEach, EachDraw, obeys}
 use Rattle.rules.specs.declared.Mode.{Mode}
 use Rattle.rules.specs.declared.Mode.the-variants.{Simple, OpaqueStipple, TransparentStipple, OpaqueFill, TransparentFill, BlockStipple, BlockFill, Copy, Unlisted}
@@ -66,10 +67,6 @@ module _ (a : ℕ) (c : Card) (w : Write) where
   unfolding layers
   layers-same n = rw (number-alike n, spans-same)
 
--- a frame write in a block mode
-abbrev blocky : Card → Write → Bool
-blocky c w = eqb (w .space) 0 && isBlock (modeOf (c .registers .mode))
-
 -- the register's bits 3:0 are the operation
 low-bits : (r a : ℕ) (s d : Bool) → result (r / 16 * 16 + a % 16) s d ≡ result a s d
 low-bits r a s d =
@@ -78,11 +75,11 @@ low-bits r a s d =
 
 -- one draw with a: a itself, or 3 in a block mode, of layers that do not know a
 picture-with : (a : ℕ) (c : Card) (w : Write) (v : List ℕ)
-    → drawnWith a c w v ≡ drawnAll (cond (blocky c w) 3 a) (layers c w (length v)) v
+    → drawnWith a c w v ≡ drawnAll (cond (inBlockMode c w) 3 a) (layers c w (length v)) v
 unfolding picture operation
 picture-with a c w v =
-    ap (λ (fs : List (ℕ → Fragment)). drawnAll (cond (blocky c w) 3 (c .registers .raster / 16 * 16 + a % 16)) fs v) (layers-same a c w (length v))
-    ∙ go (blocky c w)
+    ap (λ (fs : List (ℕ → Fragment)). drawnAll (cond (inBlockMode c w) 3 (c .registers .raster / 16 * 16 + a % 16)) fs v) (layers-same a c w (length v))
+    ∙ go (inBlockMode c w)
   where
     go : (b : Bool)
         → drawnAll (cond b 3 (c .registers .raster / 16 * 16 + a % 16)) (layers c w (length v)) v ≡ drawnAll (cond b 3 a) (layers c w (length v)) v
@@ -92,10 +89,10 @@ picture-with a c w v =
 -- two draws, on one picture after the other
 picture-twice : (a b : ℕ) (c : Card) (w : Write) (v : List ℕ)
     → drawnWith b c w (drawnWith a c w v)
-    ≡ drawnAll (cond (blocky c w) 3 b) (layers c w (length v)) (drawnAll (cond (blocky c w) 3 a) (layers c w (length v)) v)
+    ≡ drawnAll (cond (inBlockMode c w) 3 b) (layers c w (length v)) (drawnAll (cond (inBlockMode c w) 3 a) (layers c w (length v)) v)
 picture-twice a b c w v =
     picture-with b c w (drawnWith a c w v)
-    ∙ ap₂ (λ (n : ℕ) (u : List ℕ). drawnAll (cond (blocky c w) 3 b) (layers c w n) u) (same-length (withOperation a c) w v) (picture-with a c w v)
+    ∙ ap₂ (λ (n : ℕ) (u : List ℕ). drawnAll (cond (inBlockMode c w) 3 b) (layers c w n) u) (same-length (withOperation a c) w v) (picture-with a c w v)
 
 -- drawing with a and then with b is drawing with their composite, where no pixel is drawn twice
 pub composes-two : (a b : ℕ) (c : Card) (w : Write) (v : List ℕ) → Apart (layers c w (length v))
@@ -104,7 +101,7 @@ unfolding composite result number bit
 composes-two a b c w v apart =
     picture-twice a b c w v
     ∙ (drawnAll-composes _ _ (layers c w (length v)) v apart
-    ∙ (ap (λ (o : ℕ). drawnAll o (layers c w (length v)) v) (go (blocky c w)) ∙ sym (picture-with (composite a b) c w v)))
+    ∙ (ap (λ (o : ℕ). drawnAll o (layers c w (length v)) v) (go (inBlockMode c w)) ∙ sym (picture-with (composite a b) c w v)))
   where
     go : (k : Bool) → composite (cond k 3 a) (cond k 3 b) ≡ cond k 3 (composite a b)
     go true = refl
@@ -124,7 +121,7 @@ unfolding layers spansOf
 apart c w n =
     go (accepted c w n) (spansOf c w)
     (either (eqb (w .space) 1) _ _
-    (either (eqb (code (registerOf w)) 10) _ _ (omega arith) (either (eqb (code (registerOf w)) 11) _ [] (omega arith) (omega arith)))
+    (either (registerOf w is CopySource) _ _ (omega arith) (either (registerOf w is CopyDestination) _ [] (omega arith) (omega arith)))
     (omega arith))
   where
     either : (b : Bool) (p q : List Span) → length p ≤ 1 → length q ≤ 1 → length (cond b p q) ≤ 1
@@ -178,5 +175,5 @@ pub restores : (op : ℕ) → op < 16 → T (restoring op) → (c : Card) (w : W
     → drawnWith op c w (drawnWith op c w v) ≡ v
 restores op h t c w v bytes o =
     picture-twice op op c w v
-    ∙ (ap (λ (b : Bool). drawnAll (cond b 3 op) (layers c w (length v)) (drawnAll (cond b 3 op) (layers c w (length v)) v)) (obeying (blocky c w) o)
+    ∙ (ap (λ (b : Bool). drawnAll (cond b 3 op) (layers c w (length v)) (drawnAll (cond b 3 op) (layers c w (length v)) v)) (obeying (inBlockMode c w) o)
     ∙ drawnAll-restores op (layers c w (length v)) v (undoes-itself op h .1 t) bytes)

@@ -1,5 +1,5 @@
 -- Demand 3, the last clause: each operation but 5, 6, 9 and 10 has an accepted draw in simple mode that made twice does not restore.
--- One test over all sixteen operations, which antt computes. Assumes nothing.
+-- One test over all sixteen operations, which antt computes. `restores-exactly` speaks of pictures of bytes (`Bytes`).
 use mathlib.Core.Path.{_≡_, refl, ap, sym, subst}
 use mathlib.Core.Bool.{Bool, true, false, cond, not, _&&_, _||_}
 use mathlib.Core.List.{List}

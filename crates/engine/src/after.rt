@@ -8,6 +8,7 @@ use card::CLEAR;
 use card::Card;
 use card::Copier;
 use card::Mask;
+use card::ONES;
 use card::SET;
 use card::Write;
 use plan::Effect;
@@ -19,7 +20,7 @@ fn used_up(mask: Mask) -> u32
     if mask.marked == CLEAR {
         return mask.bits;
     }
-    0xFFFF_FFFF
+    ONES
 }
 
 // The card that an effect leaves. Those that look at the picture have to find their span inside.

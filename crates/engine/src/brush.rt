@@ -54,14 +54,14 @@ pub(crate) fn strokes(p: Plan, card: Card) -> Strokes
 }
 
 // The strokes of half of the copy buffer: the half that starts at byte k, which is 0 or 32.
-pub(crate) fn half_strokes(p: Plan, card: Card, first: usize, k: usize) -> Strokes
-    requires { ⌜ (isWhole (p .paint) ≡ true) × (first ≡ p .first) × (k % 32 ≡ 0) × (k ≤ 32) ⌝ }
+pub(crate) fn half_strokes(p: Plan, card: Card, k: usize) -> Strokes
+    requires { ⌜ (isWhole (p .paint) ≡ true) × (k % 32 ≡ 0) × (k ≤ 32) ⌝ }
     ensures { λ r. ⌜ Draws r (p .op) (effective card) (piece k 32 (planned p card)) ⌝ }
 {
     let buffer = card.copier.buffer;
     let source = pattern::half(buffer, k);
     let mask = pattern::masks(card.registers.plane, card.held);
-    let phase = ((first % 4 + k) % 4) as u32;
+    let phase = (p.first % 4) as u32;
     Strokes {
         op: p.op,
         enable: p.enable,

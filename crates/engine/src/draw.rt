@@ -35,8 +35,8 @@ fn halves(p: Plan, card: Card, vram: &mut [u8]) -> Tally
     ensures { λ r. ⌜ CarriedOut p card (now (vram .entry)) r (now (vram .exit)) ⌝ }
 {
     let first = p.first;
-    let low = brush::half_strokes(p, card, first, 0);
-    let high = brush::half_strokes(p, card, first, 32);
+    let low = brush::half_strokes(p, card, 0);
+    let high = brush::half_strokes(p, card, 32);
     let lower = span::draw_at(vram, first, low);
     let upper = span::draw_at(vram, first + 32, high);
     Tally {

@@ -9,7 +9,7 @@ use Rattle.card.specs.declared.Write.{Write}
 use Rattle.card.specs.declared.Register.the-variants.{CopySource, CopyDestination}
 use Rattle.card.specs.declared.table.Row.{Row}
 use Rattle.rules.specs.Modes.{registerOf}
-use Rattle.plan.specs.Plan.{registerFaults, storingPlan, copyingPlan, registerPlan}
+use Rattle.plan.specs.Plan.{registerFaults, storingPlan, copyingPlan, registerPlanBy, registerPlan}
 use Rattle.plan.specs.declared.Effect.the-variants.{Loads, Unloads}
 use Rattle.plan.specs.declared.Faults.{Faults}
 use Rattle.plan.specs.declared.Plan.{Plan}
@@ -20,10 +20,7 @@ module _ (c : Card) (w : Write) where
 
   -- the plan of a register write by a row and by whether it is the 64-byte copy's source or destination
   abbrev picked : Row → Bool → Bool → Plan
-  picked x source destination =
-      let f = registerFaults (x .register) c w in
-      cond source (copyingPlan f op (w .«data») 0 Loads)
-      (cond destination (copyingPlan f op (w .«data») 4294967295 Unloads) (storingPlan f op (x .register) (bitAnd (w .«data») (x .kept))))
+  picked x source destination = registerPlanBy source destination (x .register) (bitAnd (w .«data») (x .kept)) c w
 
   module _ {row : Row} (found : row ≡ rowAt (w .address)) {r : Plan} {f : Faults} (faults : f ≡ registerFaults (row .register) c w) where
     arm : (s d : Bool) → row .register is CopySource ≡ s → row .register is CopyDestination ≡ d → r ≡ picked row s d

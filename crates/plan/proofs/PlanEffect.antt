@@ -74,8 +74,8 @@ module _ (c : Card) (w : Write) where
 
     register-leaves : (s d : Bool) → registerOf w is CopySource ≡ s → registerOf w is CopyDestination ≡ d → left (plan c w s d .effect) c w v ≡ afterRegister c w v
     unfolding left afterRegister stores
-    register-leaves true d es ed = rw (eqb-true (code (registerOf w)) 10 es)
-    register-leaves false true es ed = rw (eqb-true (code (registerOf w)) 11 ed)
+    register-leaves true d es ed = rw (eqb-true (code (registerOf w)) (code CopySource) es)
+    register-leaves false true es ed = rw (eqb-true (code (registerOf w)) (code CopyDestination) ed)
     register-leaves false false es ed = rw (es, ed)
 
     pub planned-leaves : next c w v ≡ left (planOf c w .effect) c w v

@@ -11,7 +11,7 @@ use Rattle.card.specs.declared.Card.{Card}
 use Rattle.card.specs.declared.Write.{Write}
 use Rattle.card.specs.declared.Register.the-variants.{CopySource, CopyDestination}
 use Rattle.rules.specs.Modes.{modeOf, registerOf}
-use Rattle.plan.specs.Plan.{frameFaults, registerFaults, planOf, judged}
+use Rattle.plan.specs.Plan.{frameFaults, registerFaults, planOf, judged, judgedBy}
 use Rattle.rules.specs.Refusal.{badLength, badSpace, badLanes, noRegister, badMode, badRaster, offBoundary, past, outside, unloaded, firstHolding, refusal}
 use Rattle.plan.specs.declared.Faults.{Faults}
 use Rattle.plan.specs.declared.Plan.{Plan}
@@ -56,12 +56,8 @@ module _ (c : Card) (w : Write) where
 
   -- the number of the plan is the number of the write
   pub planned-number : (n : ℕ) → judged (planOf c w) w n ≡ refusal c w n
-  unfolding judged refusal outside
-  planned-number n =
-      ap₂ (λ (f : Faults) (past : Bool). firstHolding (
-      (1, badLength n) ∷ (2, badSpace w) ∷ (3, f .lanes) ∷ (4, f .register) ∷ (5, f .mode) ∷ (6, f .raster) ∷ (7, f .address) ∷ (8, past) ∷ (9, f .source) ∷ []
-      ))
-      planned-faults (planned-draws c w .0 n)
+  unfolding judgedBy refusal outside
+  planned-number n = ap₂ (λ (f : Faults) (past : Bool). judgedBy f past w n) planned-faults (planned-draws c w .0 n)
 
   module _ (v : List ℕ) (ok : refusal c w (length v) ≡ 0) where
     -- an accepted write's span lies inside VRAM

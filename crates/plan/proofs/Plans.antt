@@ -22,7 +22,7 @@ use Rattle.card.specs.declared.Card.{Card}
 use Rattle.card.specs.declared.Write.{Write}
 use Rattle.card.specs.declared.Register.the-variants.{CopySource, CopyDestination}
 use Rattle.rules.specs.Modes.{modeOf, foreground, background, effective, registerOf, registerSpans, frameSpan, spansOf}
-use Rattle.plan.specs.Plan.{framePlan, registerFaults, copyingPlan, storingPlan, registerPlan, planOf, planned, isWhole}
+use Rattle.plan.specs.Plan.{framePlan, registerFaults, copyingPlan, storingPlan, registerPlanBy, registerPlan, planOf, planned, isWhole}
 use Rattle.rules.specs.Refusal.{past}
 use Rattle.rules.specs.declared.Mode.{Mode}
 use Rattle.rules.specs.declared.Mode.the-variants.{Simple, OpaqueStipple, TransparentStipple, OpaqueFill, TransparentFill, BlockStipple, BlockFill, Copy, Unlisted}
@@ -67,11 +67,7 @@ module _ (c : Card) (w : Write) where
 
   -- a register write, by whether it is the 64-byte copy's source or destination
   abbrev pub plan : Bool → Bool → Plan
-  plan s d =
-      let f = registerFaults (registerOf w) c w in
-      let op = c .registers .raster % 16 in
-      cond s (copyingPlan f op (w .«data») 0 Loads)
-      (cond d (copyingPlan f op (w .«data») 4294967295 Unloads) (storingPlan f op (registerOf w) (bitAnd (w .«data») (rowAt (w .address) .kept))))
+  plan s d = registerPlanBy s d (registerOf w) (bitAnd (w .«data») (rowAt (w .address) .kept)) c w
 
   abbrev spans : Bool → Bool → List Span
   spans s d =

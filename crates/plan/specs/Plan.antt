@@ -15,7 +15,7 @@ use Rattle.card.specs.declared.Copier.{Copier}
 use Rattle.card.specs.declared.Write.{Write}
 use Rattle.card.specs.declared.Register.{Register}
 use Rattle.card.specs.declared.Register.the-variants.{Mode as ModeRegister, RasterOperation, PixelShift, CopySource, CopyDestination, Missing}
-use Rattle.rules.specs.Modes.{modeOf, unlisted, isBlock, isCopy, colour, fillFirst, frameSpan, registerOf}
+use Rattle.rules.specs.Modes.{modeOf, unlisted, isSimple, isBlock, isCopy, colour, fillFirst, frameSpan, registerOf}
 use Rattle.rules.specs.Refusal.{badLength, badSpace, firstHolding}
 use Rattle.rules.specs.Writes.{usedUp, sourced}
 use Rattle.rules.specs.declared.Mode.{Mode}
@@ -34,7 +34,7 @@ ones = 2 ^ 32 - 1
 abbrev pub frameFaults : Mode → Card → Write → Faults
 frameFaults m c w =
     record {
-      lanes = not (eqb (w .lanes) 15) && not (eqb (c .registers .mode) 0);
+      lanes = not (isSimple m) && not (eqb (w .lanes) 15);
       register = false;
       mode = unlisted m;
       raster = ltb 15 (c .registers .raster);
@@ -130,31 +130,37 @@ abbrev pub copyingPlan : Faults → ℕ → ℕ → ℕ → Effect → Plan
 copyingPlan faults op a enable effect =
     record { faults = faults; first = a; width = 64; op = op; enable = enable; paint = Whole; effect = effect }
 
-abbrev pub registerPlan : Register → Card → Write → Plan
-registerPlan g c w =
+-- by whether it is the copy's source or its destination, and what it stores
+abbrev pub registerPlanBy : (source destination : Bool) → Register → ℕ → Card → Write → Plan
+registerPlanBy source destination g v c w =
     let faults = registerFaults g c w in
     let op = c .registers .raster % 16 in
-    cond (g is CopySource) (copyingPlan faults op (w .«data») 0 Loads)
-    (cond (g is CopyDestination) (copyingPlan faults op (w .«data») ones Unloads)
-    (storingPlan faults op g (bitAnd (w .«data») (rowAt (w .address) .kept))))
+    cond source (copyingPlan faults op (w .«data») 0 Loads)
+    (cond destination (copyingPlan faults op (w .«data») ones Unloads) (storingPlan faults op g v))
+
+abbrev pub registerPlan : Register → Card → Write → Plan
+registerPlan g c w = registerPlanBy (g is CopySource) (g is CopyDestination) g (bitAnd (w .«data») (rowAt (w .address) .kept)) c w
 
 unfoldable pub planOf : Card → Write → Plan
 planOf c w = cond (eqb (w .space) 1) (registerPlan (registerOf w) c w) (framePlan (modeOf (c .registers .mode)) c w)
 
--- the number of a write whose plan is p
-unfoldable pub judged : Plan → Write → ℕ → ℕ
-judged p w n =
+-- the number of a write from what is at fault and whether its span ends past VRAM
+unfoldable pub judgedBy : Faults → Bool → Write → ℕ → ℕ
+judgedBy f past w n =
     firstHolding
     ((1, badLength n)
     ∷ (2, badSpace w)
-    ∷ (3, p .faults .lanes)
-    ∷ (4, p .faults .register)
-    ∷ (5, p .faults .mode)
-    ∷ (6, p .faults .raster)
-    ∷ (7, p .faults .address)
-    ∷ (8, ltb n (p .first + p .width))
-    ∷ (9, p .faults .source)
+    ∷ (3, f .lanes)
+    ∷ (4, f .register)
+    ∷ (5, f .mode)
+    ∷ (6, f .raster)
+    ∷ (7, f .address)
+    ∷ (8, past)
+    ∷ (9, f .source)
     ∷ [])
+
+abbrev pub judged : Plan → Write → ℕ → ℕ
+judged p w n = judgedBy (p .faults) (ltb n (p .first + p .width)) w n
 
 -- the same over numbers and tests in two lists of one length, as the code has them
 abbrev pub firstOf : List ℕ → List Bool → ℕ

@@ -1,17 +1,16 @@
 // The plan of a frame write.
 ghost use mathlib.Core.Path.{_≡_};
-ghost use mathlib.Core.Bool.{_&&_};
 ghost use Rattle.rules.specs.Modes.{modeOf};
 ghost use Rattle.plan.specs.Plan.{framePlan, drawingPlan, copyPlan, halvedPlan};
 ghost use Rattle.plan.specs.declared.Paint.the-variants.{Words};
 use crate::Effect;
 use crate::Faults;
 use crate::LAST_OPERATION;
-use crate::ONES;
 use crate::Paint;
 use crate::Plan;
 use card::CLEAR;
 use card::Card;
+use card::ONES;
 use card::Write;
 use rules::Mode;
 use rules::refusal::ALL_LANES;
@@ -35,7 +34,7 @@ pub(crate) fn of(card: Card, w: Write) -> Plan
     let first = address + (data / 65536 % 4) as usize;
     let width = data % 2048 + 1;
     let faults = Faults {
-        lanes: and(w.lanes != ALL_LANES, registers.mode != 0),
+        lanes: w.lanes != ALL_LANES,
         register: false,
         mode: false,
         raster: LAST_OPERATION < registers.raster,
@@ -44,6 +43,8 @@ pub(crate) fn of(card: Card, w: Write) -> Plan
     };
     match m {
         Mode::Simple => {
+            let mut faults = faults;
+            faults.lanes = false;
             let enable = w.lanes as u32 & pixels;
             let paint = words(ONES, data, 0, 0);
             drawing(faults, address, 4, op, enable, paint)
@@ -132,10 +133,4 @@ fn halved(faults: Faults, first: usize, op: u8, enable: u32, effect: Effect) -> 
         paint: Paint::Half,
         effect,
     }
-}
-
-fn and(a: bool, b: bool) -> bool
-    ensures { λ r. ⌜ r ≡ a && b ⌝ }
-{
-    if a { b } else { false }
 }

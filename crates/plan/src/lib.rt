@@ -2,14 +2,13 @@
 ghost use mathlib.Core.Path.{_≡_};
 ghost use Rattle.plan.specs.Plan.{planOf};
 use card::Card;
+use card::REGISTERS;
 use card::Register;
 use card::Write;
 
 mod frame;
 pub mod refusal;
 mod register;
-
-const ONES: u32 = 0xFFFF_FFFF;
 
 // The last of the sixteen raster operations.
 const LAST_OPERATION: u32 = 15;
@@ -71,7 +70,7 @@ pub struct Plan {
 pub fn of(card: Card, w: Write) -> Plan
     ensures { λ r. ⌜ r ≡ planOf card w ⌝ }
 {
-    if w.space == 1 {
+    if w.space == REGISTERS {
         register::of(card, w)
     } else {
         frame::of(card, w)

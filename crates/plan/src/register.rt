@@ -6,11 +6,11 @@ ghost use Rattle.plan.specs.Plan.{registerPlan, storingPlan, copyingPlan
 use crate::Effect;
 use crate::Faults;
 use crate::LAST_OPERATION;
-use crate::ONES;
 use crate::Paint;
 use crate::Plan;
 use card::CLEAR;
 use card::Card;
+use card::ONES;
 use card::Register;
 use card::Write;
 use card::table;

@@ -1,12 +1,12 @@
 -- What an accepted write has passed, and what the definitions then say; and what a refused one leaves. Assumes nothing.
 use mathlib.Core.Path.{_≡_, refl}
-use mathlib.Core.Bool.{Bool, true, false, _&&_, _||_}
+use mathlib.Core.Bool.{Bool, true, false, _&&_, _||_, false≢true}
 use mathlib.Core.List.{List, [], _∷_, map}
 use Prim.Native.Nat.{ℕ, zero, suc, _≤_, _<_}
 use native.Mathlib.Omega.{arith}
-use lib.Dec.{T, ltb}
+use lib.Dec.{T, leb, ltb}
 use lib.ListN.{length, getD}
-use borrow.Author.Tests.{eq-eqb, ne-eqb, ltb-true, ltb-false}
+use borrow.Author.Tests.{eq-eqb, ne-eqb, leb-true, ltb-true, ltb-false}
 use Rattle.raster.proofs.Below.{left, right, is-true}
 use Rattle.span.specs.Layers.{drawnAll, summed}
 use Rattle.span.specs.Spans.{spanned, enabledIn}
@@ -31,6 +31,32 @@ none-holds ((k, false) ∷ rs) t e (suc i) = none-holds rs (right (ltb 0 k) (abo
 pub accepted-passed : (c : Card) (w : Write) (n : ℕ) → refusal c w n ≡ 0 → (i : ℕ) → getD (rows c w n) i (0, false) .1 ≡ false
 unfolding refusal
 accepted-passed c w n e i = none-holds (rows c w n) tt e i
+
+-- the numbers of the rows rise
+abbrev from : ℕ → List (ℕ × Bool) → Bool
+from k [] = true
+from k (r ∷ rs) = leb k (r .0) && from k rs
+
+abbrev rise : List (ℕ × Bool) → Bool
+rise [] = true
+rise (r ∷ rs) = from (r .0) rs && rise rs
+
+from-at : (k : ℕ) (rs : List (ℕ × Bool)) → T (from k rs) → (i : ℕ) → getD rs i (0, false) .1 ≡ true → k ≤ getD rs i (0, false) .0
+from-at k [] t i e = absurd (false≢true e)
+from-at k (r ∷ rs) t zero e = leb-true k (r .0) (is-true _ (left (leb k (r .0)) (from k rs) t))
+from-at k (r ∷ rs) t (suc i) e = from-at k rs (right (leb k (r .0)) (from k rs) t) i e
+
+first-lowest : (rs : List (ℕ × Bool)) → T (rise rs) → (i : ℕ) → getD rs i (0, false) .1 ≡ true → firstHolding rs ≤ getD rs i (0, false) .0
+first-lowest [] t i e = absurd (false≢true e)
+first-lowest ((k, true) ∷ rs) t zero e = omega arith
+first-lowest ((k, true) ∷ rs) t (suc i) e = from-at k rs (left (from k rs) (rise rs) t) i e
+first-lowest ((k, false) ∷ rs) t zero e = absurd (false≢true e)
+first-lowest ((k, false) ∷ rs) t (suc i) e = first-lowest rs (right (from k rs) (rise rs) t) i e
+
+-- where several numbers apply, the lowest is returned: none of a test that holds is below it
+pub lowest : (c : Card) (w : Write) (n i : ℕ) → getD (rows c w n) i (0, false) .1 ≡ true → refusal c w n ≤ getD (rows c w n) i (0, false) .0
+unfolding refusal
+lowest c w n i e = first-lowest (rows c w n) tt i e
 
 first-false : (a b : Bool) → a || b ≡ false → a ≡ false
 first-false true b e = e

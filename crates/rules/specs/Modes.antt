@@ -57,6 +57,18 @@ unlisted BlockFill = false
 unlisted Copy = false
 unlisted Unlisted = true
 
+-- simple mode
+abbrev pub isSimple : Mode → Bool
+isSimple Simple = true
+isSimple OpaqueStipple = false
+isSimple TransparentStipple = false
+isSimple OpaqueFill = false
+isSimple TransparentFill = false
+isSimple BlockStipple = false
+isSimple BlockFill = false
+isSimple Copy = false
+isSimple Unlisted = false
+
 -- copy mode
 abbrev pub isCopy : Mode → Bool
 isCopy Simple = false

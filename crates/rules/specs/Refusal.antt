@@ -9,7 +9,7 @@ use Rattle.card.specs.declared.Write.{Write}
 use Rattle.card.specs.declared.Register.{Register}
 use Rattle.card.specs.declared.Register.the-variants.{Mode, RasterOperation, PixelShift, CopySource, CopyDestination, Missing}
 use Rattle.span.specs.Spans.{Span}
-use Rattle.rules.specs.Modes.{modeOf, unlisted, isCopy, registerOf, spansOf}
+use Rattle.rules.specs.Modes.{modeOf, unlisted, isSimple, isCopy, registerOf, spansOf}
 
 -- the write is a write of this register
 abbrev pub names : Write → Register → Bool
@@ -29,7 +29,7 @@ badSpace w = ltb 1 (w .space) || ltb 15 (w .lanes)
 
 -- 3: lanes are not 15, on a register write or in any mode but simple
 unfoldable pub badLanes : Card → Write → Bool
-badLanes c w = not (eqb (w .lanes) 15) && (eqb (w .space) 1 || not (eqb (c .registers .mode) 0x00))
+badLanes c w = (eqb (w .space) 1 || not (isSimple (modeOf (c .registers .mode)))) && not (eqb (w .lanes) 15)
 
 -- 4: no such register
 unfoldable pub noRegister : Write → Bool

@@ -12,9 +12,9 @@ use Rattle.card.specs.Registers.{isSet, _is_}
 use Rattle.card.specs.declared.Card.{Card}
 use Rattle.card.specs.declared.Write.{Write}
 use Rattle.card.specs.declared.Register.the-variants.{CopySource}
-use Rattle.rules.specs.Modes.{modeOf, isBlock, isCopy, registerOf}
+use Rattle.rules.specs.Modes.{modeOf, isCopy, registerOf}
 use Rattle.rules.specs.Refusal.{refusal}
-use Rattle.rules.specs.Writes.{accepted, count, next, picture}
+use Rattle.rules.specs.Writes.{accepted, count, inBlockMode, next, picture}
 
 -- a list of writes, each handed the card and the picture that the one before left, refused ones included
 unfoldable pub cardAfter : List Write → Card → List ℕ → Card
@@ -60,7 +60,7 @@ drawnWithEach (ops then a) c w v = drawnWith a c w (drawnWithEach ops c w v)
 
 -- a draw obeys the raster operation unless it is a frame write in a block mode
 abbrev pub obeys : Card → Write → Bool
-obeys c w = not (eqb (w .space) 0 && isBlock (modeOf (c .registers .mode)))
+obeys c w = not (inBlockMode c w)
 
 -- p holds of each draw of the list: of its operation and of the picture that it gets
 abbrev pub EachDraw : (ℕ → List ℕ → Type 0) → Operations → Card → Write → List ℕ → Type 0

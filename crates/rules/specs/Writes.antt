@@ -30,9 +30,13 @@ count c w n = cond (accepted c w n) (summed enabledIn (spansOf c w)) 0
 unfoldable pub layers : Card → Write → ℕ → List (ℕ → Fragment)
 layers c w n = cond (accepted c w n) (map (spanned (effective c)) (spansOf c w)) []
 
+-- a frame write in a block mode
+abbrev pub inBlockMode : Card → Write → Bool
+inBlockMode c w = eqb (w .space) 0 && isBlock (modeOf (c .registers .mode))
+
 -- block modes ignore the raster operation and take the source
 unfoldable pub operation : Card → Write → ℕ
-operation c w = cond (eqb (w .space) 0 && isBlock (modeOf (c .registers .mode))) 3 (c .registers .raster)
+operation c w = cond (inBlockMode c w) 3 (c .registers .raster)
 
 -- the picture after
 unfoldable pub picture : Card → Write → List ℕ → List ℕ

@@ -1,6 +1,7 @@
 // Numbers 1 and 2, which traces use too.
 ghost use mathlib.Core.Path.{_≡_};
 ghost use Rattle.rules.specs.Refusal.{badLength, badSpace};
+use card::REGISTERS;
 use card::Write;
 
 // The largest VRAM, in bytes.
@@ -26,7 +27,7 @@ pub fn bad_length(n: usize) -> bool
 pub fn bad_space(w: Write) -> bool
     ensures { λ r. ⌜ r ≡ badSpace w ⌝ }
 {
-    if 1 < w.space {
+    if REGISTERS < w.space {
         return true;
     }
     ALL_LANES < w.lanes

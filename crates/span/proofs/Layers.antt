@@ -1,4 +1,4 @@
--- The picture after any list of layers: each law once, over any list. Assumes nothing.
+-- The picture after any list of layers: each law once, over any list. Where 5 and restoring come in, the picture is one of bytes (`Bytes`).
 use mathlib.Core.Path.{_≡_, refl, ap, sym, _∙_}
 use mathlib.Core.Bool.{Bool, true, false, not, cond}
 use mathlib.Core.List.{List, [], _∷_, map}

@@ -34,11 +34,6 @@ pub from-past : (a : ℕ) (f : ℕ → Fragment) {p : ℕ} → a ≤ p → from 
 unfolding from
 from-past a f {p} h = ap (λ (b : Bool). cond b stays (f (p - a))) (le-ltb p a h)
 
--- a byte stays a byte
-pub painted-below : (op : ℕ) (x : Fragment) (old : ℕ) → old < 256 → painted op x old < 256
-painted-below op stays old h = h
-painted-below op (paint mask source) old h = made-below 8 op mask source old
-
 -- painted with a, then with b, is painted with the composite
 pub painted-then : (a b : ℕ) (x : Fragment) (old : ℕ) → painted b x (painted a x old) ≡ painted (composite a b) x old
 painted-then a b stays old = refl

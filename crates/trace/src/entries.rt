@@ -3,7 +3,7 @@ ghost use mathlib.Core.Path.{_≡_};
 ghost use Prim.Native.Nat.{_+_, _≤_};
 ghost use lib.ListN.{length};
 ghost use lib.Seq.{sets};
-ghost use Rattle.trace.specs.Traces.{entry, writeAt, wellFormed};
+ghost use Rattle.trace.specs.Traces.{entrySize, entry, writeAt, wellFormed};
 use crate::ENTRY;
 use crate::LARGEST;
 use crate::words::put_bytes;
@@ -13,7 +13,7 @@ use card::Write;
 
 // The write of the entry that starts at `at`.
 pub(crate) fn write_at(part: &[u8], at: usize) -> Write
-    requires { ⌜ at + 12 ≤ length (now part) ⌝ }
+    requires { ⌜ at + entrySize ≤ length (now part) ⌝ }
     ensures { λ r. ⌜ r ≡ writeAt (now (part .entry)) at ⌝ }
 {
     Write {
@@ -26,7 +26,7 @@ pub(crate) fn write_at(part: &[u8], at: usize) -> Write
 
 // The entry of a write stored from `at` on.
 pub(crate) fn put_entry(b: &mut [u8], at: usize, w: Write)
-    requires { ⌜ at + 12 ≤ length (now b) ⌝ }
+    requires { ⌜ at + entrySize ≤ length (now b) ⌝ }
     ensures { λ _. ⌜ now (b .exit) ≡ sets (now (b .entry)) at (entry w) ⌝ }
 {
     put_bytes(b, at, w.space, w.lanes, 0, 0);

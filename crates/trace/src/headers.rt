@@ -3,7 +3,7 @@ ghost use mathlib.Core.Path.{_≡_};
 ghost use Prim.Native.Nat.{_+_, _*_, _^_, _≤_, _<_};
 ghost use lib.ListN.{length};
 ghost use lib.Seq.{sets};
-ghost use Rattle.trace.specs.Traces.{header, isTrace};
+ghost use Rattle.trace.specs.Traces.{headerSize, entrySize, header, isTrace};
 use crate::ENTRY;
 use crate::HEADER;
 use crate::entries::well_formed;
@@ -18,7 +18,7 @@ const STEP: u32 = ENTRY as u32;
 
 // The header of so many entries for a VRAM of `vram` bytes, stored at the front.
 pub(crate) fn put_header(b: &mut [u8], count: u32, vram: u32)
-    requires { ⌜ (16 ≤ length (now b)) × (16 + 12 * count < 2 ^ 32) ⌝ }
+    requires { ⌜ (headerSize ≤ length (now b)) × (headerSize + entrySize * count < 2 ^ 32) ⌝ }
     ensures { λ _. ⌜ now (b .exit) ≡ sets (now (b .entry)) 0 (header count vram) ⌝ }
 {
     put_word(b, 0, count);

@@ -1,5 +1,5 @@
 -- `plan::refusal::refuse` meets its contract: the tests in one list. Assumes nothing.
-use Rattle.plan.specs.Plan.{judged}
+use Rattle.plan.specs.Plan.{judgedBy}
 use borrow.Author.Needs.{needs}
 use Rattle.plan.proofs.refusal.refuse.Statement.{statement}
 use Rattle.plan.proofs.refusal.refuse.Tie as tie
@@ -17,7 +17,7 @@ first-of-requires : tie.Need-first-of-requires
 first-of-requires c κs = search needs
 
 returns : tie.Need-returns
-unfolding judged
+unfolding judgedBy
 returns c = cc
 
 pub refuse-spec : {M : Type 1} → statement M
