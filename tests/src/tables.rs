@@ -45,6 +45,9 @@ const READ_BACK: [(u64, u64, u64, u32); 9] = [
     (2_097_216, 0, 0, 1),
 ];
 
+/// Raster operation of a card handed in, then what 0034h reads.
+const HANDED_IN: [(u32, u32); 3] = [(0xFFFF_F0F6, 6), (0x0000_0F00, 0), (0x0000_000F, 15)];
+
 pub fn check_all() -> Result<usize, String> {
     let card = model::reset(0x5A);
     for (offset, number, value) in AT_RESET {
@@ -56,6 +59,16 @@ pub fn check_all() -> Result<usize, String> {
             ));
         }
     }
+    for (raster, value) in HANDED_IN {
+        let mut card = model::reset(0);
+        card.raster = raster;
+        let read = model::read_register(&card, 0x0034);
+        if read != (0, value) {
+            return Err(format!(
+                "a raster operation of {raster:08X}h reads {read:?}, expected {value}"
+            ));
+        }
+    }
     for (length, a, n, number) in READ_BACK {
         let read = model::read_back(length, a, n);
         if read != number {
@@ -64,5 +77,5 @@ pub fn check_all() -> Result<usize, String> {
             ));
         }
     }
-    Ok(AT_RESET.len() + READ_BACK.len())
+    Ok(AT_RESET.len() + HANDED_IN.len() + READ_BACK.len())
 }

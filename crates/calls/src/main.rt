@@ -28,6 +28,7 @@ fn main() {
     says(b"readings after writes", readings::after_writes());
     says(b"pixel mask at both offsets", readings::pixel_mask());
     says(b"bits that read as zero", readings::ignored_bits());
+    says(b"bits that read as zero, handed in", readings::handed_in());
     says(b"offsets not listed, below 1000h", offsets::low());
     says(b"offsets not listed, above", offsets::high());
     says(b"0160h and 0164h, write only", offsets::write_only());

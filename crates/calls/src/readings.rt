@@ -107,3 +107,17 @@ pub fn ignored_bits() -> Tally {
     let t = reads(t, sent(card, 1, 0x0038, 0xFFFF_FFF0), 0x0038, 0);
     reads(t, sent(card, 1, 0x0038, 0x0000_0010), 0x0038, 0)
 }
+
+// A card handed in with a raster operation that no write leaves.
+fn holding(raster: u32) -> Card {
+    let mut card = Card::reset(0);
+    card.registers.raster = raster;
+    card
+}
+
+// The same bits of such a card.
+pub fn handed_in() -> Tally {
+    let t = reads(NONE, holding(0xFFFF_F0F6), 0x0034, 0x6);
+    let t = reads(t, holding(0x0000_0F00), 0x0034, 0x0);
+    reads(t, holding(0x0000_000F), 0x0034, 0xF)
+}

@@ -6,3 +6,4 @@ pub mod Demand3
 pub mod Witness
 pub mod Quiet
 pub mod Caliper
+pub mod CaliperSample

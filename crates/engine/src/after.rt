@@ -29,9 +29,9 @@ pub(crate) fn left(effect: Effect, card: Card, w: Write, vram: &[u8]) -> Card
     ensures { λ r. ⌜ r ≡ leftBy effect card w (now (vram .entry)) ⌝ }
 {
     let mut next = card;
-    let bits = used_up(card.mask);
     match effect {
         Effect::UsesMask => {
+            let bits = used_up(card.mask);
             next.mask.bits = bits;
             next.mask.marked = CLEAR;
             next
@@ -44,12 +44,14 @@ pub(crate) fn left(effect: Effect, card: Card, w: Write, vram: &[u8]) -> Card
                 loaded: CLEAR,
                 writing: SET,
             };
+            let bits = used_up(card.mask);
             next.mask.bits = bits;
             next.mask.marked = CLEAR;
             next.copier = copier;
             next
         }
         Effect::DrawsDestination => {
+            let bits = used_up(card.mask);
             next.mask.bits = bits;
             next.mask.marked = CLEAR;
             next.copier.writing = CLEAR;

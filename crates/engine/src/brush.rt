@@ -17,10 +17,6 @@ use span::Strokes;
 fn sources(p: Paint, card: Card) -> [u8; 32]
     ensures { λ r. ⌜ (isWhole p ≡ false → (j : ℕ) → getD r (j % 32) 0 ≡ takenBy p card j) ⌝ }
 {
-    let registers = card.registers;
-    let zero = registers.block[0];
-    let one = registers.block[1];
-    let buffer = card.copier.buffer;
     match p {
         Paint::Words {
             pick,
@@ -28,8 +24,14 @@ fn sources(p: Paint, card: Card) -> [u8; 32]
             paper,
             at,
         } => pattern::words(pick, ink, paper, at),
-        Paint::Colours { at } => pattern::colours(zero, one, at),
-        Paint::Half => pattern::half(buffer, 0),
+        Paint::Colours { at } => {
+            let registers = card.registers;
+            pattern::colours(registers.block[0], registers.block[1], at)
+        }
+        Paint::Half => {
+            let buffer = card.copier.buffer;
+            pattern::half(buffer, 0)
+        }
         Paint::Whole => [0u8; 32],
     }
 }

@@ -1,6 +1,7 @@
 //! The libraries that are measured: this tree's and, with the feature `other`, another commit's. A card may be laid out
 //! differently in each, so it is a block of memory here, which only its own library reads and changes.
 
+use crate::engine::card::Card;
 use crate::engine::entries::{self, WriteEntry};
 use crate::model::Write;
 use std::ffi::c_void;
@@ -40,9 +41,11 @@ extern "C" {
     ) -> entries::Answer;
 }
 
-/// Room for a card of any layout; on whole cache lines, so that no side has a better place than another.
+/// Room for a card of any layout of at most 256 bytes; on whole cache lines, so that no side has a better place than another.
 #[repr(align(64))]
 struct Block([u8; 256]);
+
+const _: () = assert!(size_of::<Card>() <= 256);
 
 /// What makes writes on a card of the library's that starts at reset.
 pub fn card(library: Library) -> impl FnMut(&mut [u8], Write) -> (u32, u32) {

@@ -1,7 +1,7 @@
 //! Safe wrappers over the C interface of the engine's static library. They take and give the model's types, so that both sides
 //! can be compared whole.
 
-mod card;
+pub mod card;
 pub mod entries;
 
 use crate::model::{self, trace, Write};

@@ -81,7 +81,8 @@ pub fn read_register(card: &Card, offset: u32) -> (u32, u32) {
         Some(Register::Plane) => (0, card.plane),
         Some(Register::PixelOnce) | Some(Register::PixelLasting) => (0, card.pixel),
         Some(Register::Mode) => (0, card.mode),
-        Some(Register::Raster) => (0, card.raster),
+        // Also of a card handed in with other bits.
+        Some(Register::Raster) => (0, card.raster % 16),
         Some(Register::Shift) => (0, 0),
         Some(Register::Data) => (0, card.data),
         Some(Register::Block(i)) => (0, card.block[i]),

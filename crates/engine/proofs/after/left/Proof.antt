@@ -5,11 +5,11 @@ use borrow.Author.Needs.{needs}
 use Rattle.engine.proofs.after.left.Statement.{statement}
 use Rattle.engine.proofs.after.left.Tie as tie
 
-used-up-requires : tie.Need-used-up-requires
-used-up-requires c κs = search needs
-
 enum-told : tie.Need-enum-told
 enum-told c = search needs
+
+used-up-requires : tie.Need-used-up-requires
+used-up-requires c κs = search needs
 
 enum-told-2 : tie.Need-enum-told-2
 enum-told-2 c = search needs
@@ -18,10 +18,16 @@ cast-read-32 : tie.Need-cast-read-32
 cast-read-32 c = search needs
 
 read-32-requires : tie.Need-read-32-requires
-read-32-requires c κs = rw (c .before .before .enum-told2 .given .1) at (c .before .before .before .before .before .before .pre)
+read-32-requires c κs = rw (c .before .before .enum-told2 .given .1) at (c .before .before .before .before .before .pre)
+
+used-up-requires-2 : tie.Need-used-up-requires-2
+used-up-requires-2 c κs = search needs
 
 enum-told-3 : tie.Need-enum-told-3
 enum-told-3 c = search needs
+
+used-up-requires-3 : tie.Need-used-up-requires-3
+used-up-requires-3 c κs = search needs
 
 enum-known-effect : tie.Need-enum-known-effect
 enum-known-effect c = search needs
@@ -36,22 +42,22 @@ cast-read-64 : tie.Need-cast-read-64
 cast-read-64 c = search needs
 
 read-64-requires : tie.Need-read-64-requires
-read-64-requires c κs = rw (c .before .enum-told4 .given .1) at (c .before .before .before .before .before .pre)
+read-64-requires c κs = rw (c .before .enum-told4 .given .1) at (c .before .before .before .before .pre)
 
 enum-told-5 : tie.Need-enum-told-5
 enum-told-5 c = search needs
 
 returns : tie.Need-returns
 unfolding left
-returns c = rw (c .before .before .enum-told .given .1, c .before .before .before .before .used-up .ensures)
+returns c = rw (c .before .before .before .enum-told .given .1, c .before .before .used-up .ensures)
 
 returns-2 : tie.Need-returns-2
 unfolding left sourced
-returns-2 c = rw (c .before .before .before .before .before .enum-told2 .given .1, c .before .before .before .before .before .before .before .used-up .ensures, c .before .before .read-32 .ensures)
+returns-2 c = rw (c .before .before .before .before .before .before .enum-told2 .given .1, c .before .before .used-up2 .ensures, c .before .before .before .read-32 .ensures)
 
 returns-3 : tie.Need-returns-3
 unfolding left
-returns-3 c = rw (c .before .before .before .enum-told3 .given .1, c .before .before .before .before .before .used-up .ensures)
+returns-3 c = rw (c .before .before .before .before .enum-told3 .given .1, c .before .before .before .used-up3 .ensures)
 
 returns-4 : tie.Need-returns-4
 unfolding left
@@ -69,12 +75,14 @@ pub left-spec : {M : Type 1} → statement M
 left-spec =
     tie.close
     (tie.spec
-    used-up-requires
     enum-told
+    used-up-requires
     enum-told-2
     cast-read-32
     read-32-requires
+    used-up-requires-2
     enum-told-3
+    used-up-requires-3
     enum-known-effect
     store-requires
     enum-told-4

@@ -1,0 +1,26 @@
+-- The caliper's conditions can be met by a list that draws: the operation set to exclusive-or, then four pixels. Assumes nothing.
+use mathlib.Core.Path.{_≡_, refl}
+use mathlib.Core.List.{List, [], _∷_}
+use mathlib.Core.Logic.{inl, inr}
+use Prim.Native.Nat.{ℕ}
+use lib.ListN.{replicate}
+use Rattle.raster.specs.Pixel.{bit, number, result, made}
+use Rattle.span.specs.Fragments.{byte, from, before, drawn, counted, listed}
+use Rattle.span.specs.Layers.{drawnAll}
+use Rattle.span.specs.Spans.{spanned}
+use Rattle.card.specs.declared.Write.{Write}
+use Rattle.card.specs.Registers.{rowAt, rowIn, table, stores}
+use Rattle.card.specs.Reset.{resetCard}
+use Rattle.rules.specs.Modes.{modeOf, frameSpan, spansOf, effectiveBy}
+use Rattle.rules.specs.Refusal.{badLength, badSpace, badLanes, noRegister, badMode, badRaster, offBoundary, outside, unloaded, refusal}
+use Rattle.rules.specs.Writes.{count, operation, layers, picture, sourced, afterFrame, afterRegister, next}
+use Rattle.rules.specs.Sequences.{answersOf, EachUndoable}
+
+abbrev caliper : List Write
+caliper =
+    record { space = 1; lanes = 15; address = 0x0034; «data» = 6 } ∷ record { space = 0; lanes = 15; address = 0; «data» = 0x44332211 } ∷ []
+
+pub met : EachUndoable caliper (resetCard 0) (replicate 64 0)
+    × (answersOf caliper (resetCard 0) (replicate 64 0) ≡ (0, 0) ∷ (0, 4) ∷ [])
+unfolding answersOf refusal badLength badSpace badLanes noRegister badMode badRaster offBoundary outside unloaded modeOf frameSpan spansOf spanned effectiveBy count operation layers picture sourced afterFrame afterRegister next resetCard rowAt rowIn table stores byte from before drawn drawnAll counted listed made number result bit
+met = ((record { drawing = inl refl; reading = refl }, (record { drawing = inr (tt, refl); reading = refl }, tt)), refl)
