@@ -1,4 +1,4 @@
--- The laws of what a write means, and the samples of the scope paper.
+-- The samples of the scope paper, and the laws of what a write means.
+pub mod Samples
 pub mod Tests
 pub mod Outcome
-pub mod Samples
