@@ -7,7 +7,7 @@ use card::Card;
 use card::Write;
 
 // The size of a trace's entry.
-const ENTRY: u32 = trace::ENTRY as u32;
+const ENTRY: u32 = recording::ENTRY as u32;
 
 // What a write answers: its number and the pixels enabled.
 #[repr(C)]
@@ -78,7 +78,7 @@ pub extern "C" fn zevkholtai_run(card: &mut Card, part: &[u8], vram: &mut [u8], 
 pub extern "C" fn zevkholtai_start(buffer: &mut [u8], vram: u32) -> Checked
     ensures { λ r. ⌜ Began (now (buffer .entry)) vram r (now (buffer .exit)) ⌝ }
 {
-    let begun = trace::start(buffer, vram);
+    let begun = recording::start(buffer, vram);
     let length = begun.length as u32;
     Checked {
         number: begun.number,
@@ -104,7 +104,7 @@ pub extern "C" fn zevkholtai_append(
         address,
         data: word,
     };
-    let grown = trace::append(buffer, used, w);
+    let grown = recording::append(buffer, used, w);
     let length = grown.length as u32;
     Checked {
         number: grown.number,
@@ -119,7 +119,7 @@ pub extern "C" fn zevkholtai_check(bytes: &[u8]) -> Checked
 {
     let mut number: u32 = 0;
     let mut length: u32 = 0;
-    trace::check(bytes, &mut number, &mut length);
+    recording::check(bytes, &mut number, &mut length);
     Checked { number, length }
 }
 

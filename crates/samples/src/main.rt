@@ -352,11 +352,11 @@ const TRACE: [u8; 28] = [
 
 fn s12() -> bool {
     let mut buffer = [0u8; 28];
-    let begun = trace::start(&mut buffer, 64);
+    let begun = recording::start(&mut buffer, 64);
     if begun.number != 0 {
         return false;
     }
-    let grown = trace::append(&mut buffer, begun.length, frame(0, 0x44332211));
+    let grown = recording::append(&mut buffer, begun.length, frame(0, 0x44332211));
     if grown.number != 0 {
         return false;
     }

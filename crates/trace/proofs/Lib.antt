@@ -1,19 +1,8 @@
 -- The laws of the crate `trace`, and the demands over traces as theorems.
-pub mod Bytes
-pub mod Stores
-pub mod Padding
-pub mod HeaderTests
-pub mod Parts
-pub mod Tested
-pub mod Checking
-pub mod Encoding
-pub mod Decoding
-pub mod RecordingTests
-pub mod Growing
-pub mod RoundTrip
 pub mod Runs
 pub mod Remaining
 pub mod Budgets
 pub mod Demands
 pub mod Turns
+pub mod Rerun
 pub mod Samples

@@ -1,17 +1,22 @@
--- The unread part of a part that can be run can be run, and has the writes that are left. Assumes nothing.
+-- The unread part: empty past the end; of a part that can be run it can be run, and has the writes that are left. Assumes nothing.
 use mathlib.Core.Path.{_≡_, ap, sym, _∙_}
 use mathlib.Core.Bool.{true}
-use mathlib.Core.List.{List}
-use Prim.Native.Nat.{ℕ, zero, suc, _+_, _*_}
+use mathlib.Core.List.{List, []}
+use Prim.Native.Nat.{ℕ, zero, suc, _+_, _*_, _<_}
 use native.Mathlib.Nat.{add-zero, zero-add, suc-add}
 use native.Mathlib.Omega.{arith}
 use lib.Dec.{eqb}
-use lib.ListN.{getD, drop, length-drop}
-use Rattle.trace.specs.Traces.{entryCount, writesAt, paddedAt, writes, wellFormed}
+use lib.ListN.{length, getD, drop, length-drop, drop-of-length-le}
+use Rattle.recording.specs.Traces.{entryCount, writesAt, paddedAt, writes, wellFormed}
+use Rattle.recording.proofs.Padding.{by-padding}
+use Rattle.recording.proofs.Tested.{both, Formed}
+use Rattle.recording.proofs.Decoding.{writesAt-drop, paddedAt-drop}
 use Rattle.trace.specs.Run.{unread}
-use Rattle.trace.proofs.Padding.{by-padding}
-use Rattle.trace.proofs.Tested.{both, Formed}
-use Rattle.trace.proofs.Decoding.{writesAt-drop, paddedAt-drop}
+
+-- past the end
+pub past : (v : List ℕ) (applied : ℕ) → length v < 12 * applied → [] ≡ unread v applied
+unfolding unread
+past v applied h = rw (drop-of-length-le v {i = 12 * applied} (omega arith))
 
 -- the entries after k of k + m
 drop-writesAt : (v : List ℕ) (k m a : ℕ) → drop k (writesAt v a (k + m)) ≡ writesAt v (a + 12 * k) m

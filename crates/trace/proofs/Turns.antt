@@ -13,7 +13,8 @@ use Rattle.engine.specs.Contract.{Written}
 use Rattle.demands.proofs.Counting.{count-bound}
 use Rattle.demands.proofs.Demand1.{same-length}
 use Rattle.rules.proofs.Outcome.{picture-refused}
-use Rattle.trace.specs.Traces.{writeAt, writesAt, entryCount, writes, wellFormed}
+use Rattle.recording.specs.Traces.{writeAt, entryAt, writesAt, entryCount, writes, wellFormed}
+use Rattle.recording.proofs.Inside.{inside}
 use Rattle.trace.specs.Run.{State, answer, apply, refuse, ran, run}
 use Rattle.trace.proofs.Runs.{ran-refused, ran-applied, run-good}
 
@@ -46,6 +47,10 @@ all-spent part n budget i s h = let e : budget - i ≡ 0 = omega arith in rw e (
     none : (ws : List Write) → s ≡ ran ws 0 s
     none [] = refl
     none (w ∷ ws) = refl
+
+-- entry i lies inside the part
+pub read-inside : (part : List ℕ) (i : ℕ) {w : Write} → i < entryCount part → w ≡ entryAt part (12 * i) → w ≡ writeAt part (12 * i)
+read-inside part i h e = e ∙ inside part (12 * i) (omega arith)
 
 module _ (c : Card) (v : List ℕ) {w : Write} {r : Answer} {v′ : List ℕ} (done : Written c w v r v′) where
   pub turn-length : length v′ ≡ length v

@@ -1,11 +1,11 @@
 // Running a part of a trace.
 ghost use mathlib.Core.Path.{_≡_};
 ghost use Rattle.trace.specs.Run.{run as runOf, outcomeOf};
-use crate::ENTRY;
 use crate::Ran;
-use crate::entries::well_formed;
-use crate::entries::write_at;
 use card::Card;
+use recording::ENTRY;
+use recording::entry_at;
+use recording::well_formed;
 use rules::refusal::bad_length;
 
 // The entries of the part, one after the other, until the budget or the part ends or one is refused.
@@ -36,7 +36,7 @@ pub fn run(part: &[u8], card: Card, vram: &mut [u8], budget: u32) -> Ran
         if applied == budget {
             break;
         }
-        let w = write_at(part, ENTRY * applied as usize);
+        let w = entry_at(part, ENTRY * applied as usize);
         let answer = engine::write(current, w, vram);
         let number = answer.number;
         if number != 0 {

@@ -1,8 +1,8 @@
 -- `trace::reading::unread` meets its contract. Assumes nothing.
 use Prim.Native.Nat.{_*_}
+use Rattle.recording.proofs.Parts.{from-on}
 use Rattle.trace.specs.Run.{unread}
-use Rattle.trace.proofs.Parts.{from-on}
-use Rattle.trace.proofs.Checking.{past}
+use Rattle.trace.proofs.Remaining.{past}
 use borrow.Author.Needs.{needs}
 use Rattle.trace.proofs.reading.unread.Statement.{statement}
 use Rattle.trace.proofs.reading.unread.Tie as tie

@@ -9,11 +9,11 @@ use borrow.Author.Tests.{not-true, not-false}
 use lib.ListN.{length}
 use Rattle.rules.proofs.Tests.{said}
 use Rattle.rules.specs.Refusal.{badLength}
-use Rattle.trace.specs.Traces.{largest, entryCount, wellFormed}
+use Rattle.recording.specs.Traces.{largest, entryCount, wellFormed}
+use Rattle.recording.proofs.Tested.{formed}
 use Rattle.trace.specs.Run.{run}
-use Rattle.trace.proofs.Tested.{formed}
 use Rattle.trace.proofs.Runs.{run-malformed, run-bad}
-use Rattle.trace.proofs.Turns.{standing, remaining, all-left, all-read, all-spent, turn-refused, turn-applied, turn-length, turn-pixels}
+use Rattle.trace.proofs.Turns.{standing, remaining, all-left, all-read, all-spent, read-inside, turn-refused, turn-applied, turn-length, turn-pixels}
 use Rattle.trace.proofs.replay.run.Statement.{statement}
 use Rattle.trace.proofs.replay.run.Tie as tie
 
@@ -59,17 +59,17 @@ cast-count c = omega (arith, few c)
 loop-holds : tie.Need-loop-holds Inv-loop μ-loop
 loop-holds c = (search needs, search needs, refl, search needs, all-left _ _ _ _ (is-formed c) (is-good c))
 
-cast-write-at : tie.Need-cast-write-at Inv-loop μ-loop
-cast-write-at c = search needs
+cast-entry-at : tie.Need-cast-entry-at Inv-loop μ-loop
+cast-entry-at c = search needs
 
-mul-write-at : tie.Need-mul-write-at Inv-loop μ-loop
-mul-write-at c = search needs
+mul-entry-at : tie.Need-mul-entry-at Inv-loop μ-loop
+mul-entry-at c = search needs
 
 in-budget : (c : tie.Else3 Inv-loop μ-loop) → c .before .before .loop .applied < c .before .before .before .before .before .before .before .before .before .args .budget
 in-budget c = omega (arith, c .before .before .loop .inv .1, c .if3 .left)
 
-write-at-requires : tie.Need-write-at-requires Inv-loop μ-loop
-write-at-requires c κs = search needs
+entry-at-requires : tie.Need-entry-at-requires Inv-loop μ-loop
+entry-at-requires c κs = search needs
 
 write-requires : tie.Need-write-requires Inv-loop μ-loop
 write-requires c κs = search needs
@@ -81,9 +81,10 @@ returns-3 : tie.Need-returns-3 Inv-loop μ-loop
 returns-3 c =
     let wrote = c .before .before .before in
     let entry = wrote .before .before in
+    let more = entry .before .before .loop-test .taken in
     let l = entry .before .before .before .loop in
-    turn-refused _ _ _ (l .applied) (l .pixels) (l .current) (l .vram) (entry .before .before .loop-test .taken) (in-budget (entry .before))
-    (entry .write-at .ensures)
+    turn-refused _ _ _ (l .applied) (l .pixels) (l .current) (l .vram) more (in-budget (entry .before))
+    (read-inside _ (l .applied) more (entry .entry-at .ensures))
     (wrote .write .ensures)
     (c .if4 .taken)
     ∙ l .inv .4
@@ -119,7 +120,10 @@ loop-again c =
       omega (arith, left),
       turn-length (l .current) (l .vram) (wrote .write .ensures) ∙ l .inv .2,
       turn-pixels (l .current) (l .vram) (wrote .write .ensures) (l .applied) (l .pixels) (l .inv .3),
-      turn-applied _ _ _ (l .applied) (l .pixels) (l .current) (l .vram) more left (entry .write-at .ensures) (wrote .write .ensures) (c .before .before .if4 .left)
+      turn-applied _ _ _ (l .applied) (l .pixels) (l .current) (l .vram) more left
+          (read-inside _ (l .applied) more (entry .entry-at .ensures))
+          (wrote .write .ensures)
+          (c .before .before .if4 .left)
           ∙ l .inv .4,
     )
 
@@ -147,9 +151,9 @@ run-spec =
     returns-2
     cast-count
     loop-holds
-    cast-write-at
-    mul-write-at
-    write-at-requires
+    cast-entry-at
+    mul-entry-at
+    entry-at-requires
     write-requires
     same-length
     returns-3

@@ -1,0 +1,20 @@
+-- One entry: read where it lies inside the part, four zeros elsewhere. Assumes nothing.
+use mathlib.Core.Path.{_≡_}
+use mathlib.Core.List.{List}
+use Prim.Native.Nat.{ℕ, _+_, _≤_, _<_}
+use lib.ListN.{length}
+use borrow.Author.Tests.{le-leb, lt-leb}
+use Rattle.card.specs.declared.Write.{Write}
+use Rattle.recording.specs.Traces.{writeAt, entryAt}
+
+abbrev zeros : Write
+zeros = record { space = 0; lanes = 0; address = 0; «data» = 0 }
+
+module _ (v : List ℕ) (a : ℕ) where
+  pub inside : a + 12 ≤ length v → entryAt v a ≡ writeAt v a
+  unfolding entryAt
+  inside h = rw (le-leb _ _ h)
+
+  pub outside : length v < a + 12 → zeros ≡ entryAt v a
+  unfolding entryAt
+  outside h = rw (lt-leb _ _ h)

@@ -1,0 +1,4 @@
+-- What the crate `recording` means: scope paper, "Traces".
+pub mod Bytes
+pub mod Traces
+pub mod Recording

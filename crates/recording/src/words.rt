@@ -1,0 +1,48 @@
+// Little-endian 32-bit numbers in a slice of bytes.
+ghost use mathlib.Core.Path.{_≡_};
+ghost use mathlib.Core.List.{[], _∷_};
+ghost use Prim.Native.Nat.{_+_, _*_, _^_, _≤_};
+ghost use lib.ListN.{length};
+ghost use lib.Seq.{sets};
+ghost use Rattle.recording.specs.Bytes.{word, bytes};
+
+// Four bytes as one number, the first its lowest.
+fn joined(a: u8, b: u8, c: u8, d: u8) -> u32
+    ensures { λ r. ⌜ r ≡ a + 2 ^ 8 * b + 2 ^ 16 * c + 2 ^ 24 * d ⌝ }
+{
+    a as u32 + 0x100 * b as u32 + 0x1_0000 * c as u32 + 0x100_0000 * d as u32
+}
+
+// The number whose first byte stands at `at`.
+pub(crate) fn word_at(b: &[u8], at: usize) -> u32
+    requires { ⌜ at + 4 ≤ length (now b) ⌝ }
+    ensures { λ r. ⌜ r ≡ word (now (b .entry)) at ⌝ }
+{
+    joined(b[at], b[at + 1], b[at + 2], b[at + 3])
+}
+
+// Four bytes stored from `at` on.
+pub(crate) fn put_bytes(b: &mut [u8], at: usize, x: u8, y: u8, z: u8, t: u8)
+    requires { ⌜ at + 4 ≤ length (now b) ⌝ }
+    ensures { λ _. ⌜ now (b .exit) ≡ sets (now (b .entry)) at (x ∷ y ∷ z ∷ t ∷ []) ⌝ }
+{
+    b[at] = x;
+    b[at + 1] = y;
+    b[at + 2] = z;
+    b[at + 3] = t;
+}
+
+// The bytes of a number stored from `at` on.
+pub(crate) fn put_word(b: &mut [u8], at: usize, x: u32)
+    requires { ⌜ at + 4 ≤ length (now b) ⌝ }
+    ensures { λ _. ⌜ now (b .exit) ≡ sets (now (b .entry)) at (bytes x) ⌝ }
+{
+    put_bytes(
+        b,
+        at,
+        (x % 0x100) as u8,
+        (x / 0x100 % 0x100) as u8,
+        (x / 0x1_0000 % 0x100) as u8,
+        (x / 0x100_0000 % 0x100) as u8,
+    );
+}
