@@ -25,8 +25,8 @@ fn is_part(part: &[u8], vram: &[u8], a: u32, n: u32) -> bool {
 }
 
 fn gives(t: Tally, vram: &[u8; 256], a: u32, n: u32) -> Tally {
-    let number = engine::read_back_number(256, a, n);
-    let part = engine::read_back(vram, a, n);
+    let number = readback::number(256, a, n);
+    let part = readback::part(vram, a, n);
     with(t, number == 0 && is_part(part, vram, a, n))
 }
 
@@ -48,8 +48,8 @@ fn refuses(t: Tally, vram: &[u8], size: usize, a: u32, n: u32, number: u32) -> T
     if vram.len() < size {
         return with(t, false);
     }
-    let answer = engine::read_back_number(size, a, n);
-    let part = engine::read_back(&vram[0..size], a, n);
+    let answer = readback::number(size, a, n);
+    let part = readback::part(&vram[0..size], a, n);
     with(t, answer == number && part.len() == 0)
 }
 
@@ -73,7 +73,7 @@ pub fn near_the_top() -> Tally {
 }
 
 fn numbered(t: Tally, size: usize, a: u32, n: u32, number: u32) -> Tally {
-    with(t, engine::read_back_number(size, a, n) == number)
+    with(t, readback::number(size, a, n) == number)
 }
 
 // 1 comes before 8. The longest VRAM is taken, and one step more is not.

@@ -1,4 +1,3 @@
--- The laws of how a write is drawn, and of read-back.
+-- The laws of how a write is drawn.
 pub mod Arrays
 pub mod Sources
-pub mod Backwards

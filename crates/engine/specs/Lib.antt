@@ -1,3 +1,2 @@
--- What the crate `engine` promises: a write, and read-back.
+-- What the crate `engine` promises of a write.
 pub mod Contract
-pub mod ReadBack

@@ -1,11 +1,12 @@
 // The engine: one write at a time, with the card's state and a lent video memory.
-// What a write means stands in the crate `rules`; what each function here promises stands in specs/.
+// What a write means stands in the crate `rules`; what is promised here stands in specs/.
 ghost use mathlib.Core.Path.{_≡_};
+ghost use Rattle.plan.specs.Plan.{planOf};
 ghost use Rattle.engine.specs.Contract.{Written};
-ghost use Rattle.engine.specs.ReadBack.{backNumber, backPart};
 use card::Card;
+use card::REGISTERS;
 use card::Write;
-use rules::refusal;
+use plan::Plan;
 use span::Tally;
 
 mod after;
@@ -21,11 +22,22 @@ pub struct Answer {
     pub card: Card,
 }
 
+// The plan of any write. A frame write never looks at the register table, a register write once.
+fn plan_of(card: Card, w: Write) -> Plan
+    ensures { λ r. ⌜ r ≡ planOf card w ⌝ }
+{
+    if w.space == REGISTERS {
+        registers::plan(card, w)
+    } else {
+        frames::plan(card, w)
+    }
+}
+
 // One write. A refused one answers its number with no pixel counted, and leaves the card and every byte of VRAM.
 pub fn write(card: Card, w: Write, vram: &mut [u8]) -> Answer
     ensures { λ r. ⌜ Written card w (now (vram .entry)) r (now (vram .exit)) ⌝ }
 {
-    let p = plan::of(card, w);
+    let p = plan_of(card, w);
     let number = plan::refusal::refuse(p, w, vram.len());
     if number != 0 {
         let tally = Tally { enabled: 0 };
@@ -43,29 +55,4 @@ pub fn write(card: Card, w: Write, vram: &mut [u8]) -> Answer
         tally,
         card: next,
     }
-}
-
-// The number of a read-back of n pixels from address a, out of a VRAM of that length.
-pub fn read_back_number(size: usize, a: u32, n: u32) -> u32
-    ensures { λ r. ⌜ r ≡ backNumber size a n ⌝ }
-{
-    if refusal::bad_length(size) {
-        return 1;
-    }
-    if size < a as usize + n as usize {
-        return 8;
-    }
-    0
-}
-
-// Read-back: that part of VRAM itself, or an empty part where the number is not 0.
-pub fn read_back(vram: &[u8], a: u32, n: u32) -> &[u8]
-    ensures { λ r. ⌜ now r ≡ backPart (now (vram .entry)) a n ⌝ }
-{
-    let first = a as usize;
-    let end = first + n as usize;
-    if read_back_number(vram.len(), a, n) != 0 {
-        return &vram[0..0];
-    }
-    &vram[first..end]
 }

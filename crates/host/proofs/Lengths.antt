@@ -10,12 +10,12 @@ use lib.Seq.{length-take-le}
 use borrow.Author.Tests.{eqb-true}
 use Rattle.card.specs.declared.Card.{Card}
 use Rattle.card.specs.declared.Write.{Write}
-use Rattle.recording.specs.Traces.{largest, isTrace, checkNumber, checkPart}
+use Rattle.format.specs.Traces.{largest, isTrace, checkNumber, checkPart}
 use Rattle.recording.specs.Recording.{startNumber, startLength, appendNumber, appendLength}
 use Rattle.trace.specs.Run.{State, outcomeOf, run, unread}
 use Rattle.trace.specs.declared.Ran.{Ran}
-use Rattle.recording.proofs.Tested.{formed, traced}
-use Rattle.recording.proofs.Checking.{good, bad}
+use Rattle.format.proofs.Tested.{formed, traced}
+use Rattle.format.proofs.Checking.{good, bad}
 use Rattle.recording.proofs.RecordingTests.{appendable}
 use Rattle.trace.proofs.Demands.{outcome}
 use Rattle.host.specs.Entries.{Replayed}

@@ -7,7 +7,7 @@ use card::Card;
 use card::Write;
 
 // The size of a trace's entry.
-const ENTRY: u32 = recording::ENTRY as u32;
+const ENTRY: u32 = format::ENTRY as u32;
 
 // What a write answers: its number and the pixels enabled.
 #[repr(C)]
@@ -119,7 +119,7 @@ pub extern "C" fn zevkholtai_check(bytes: &[u8]) -> Checked
 {
     let mut number: u32 = 0;
     let mut length: u32 = 0;
-    recording::check(bytes, &mut number, &mut length);
+    format::check(bytes, &mut number, &mut length);
     Checked { number, length }
 }
 

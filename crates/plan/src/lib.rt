@@ -1,17 +1,10 @@
 // The plan of a write: what is drawn where and what becomes of the card, decided once. Refusal, drawing and the next card use it.
-ghost use mathlib.Core.Path.{_≡_};
-ghost use Rattle.plan.specs.Plan.{planOf};
-use card::Card;
-use card::REGISTERS;
 use card::Register;
-use card::Write;
 
-mod frame;
 pub mod refusal;
-mod register;
 
 // The last of the sixteen raster operations.
-const LAST_OPERATION: u32 = 15;
+pub const LAST_OPERATION: u32 = 15;
 
 // What the pixels of a span take. `at` is the address of the first, for the bytes that go by address.
 pub enum Paint {
@@ -64,15 +57,4 @@ pub struct Plan {
     pub enable: u32,
     pub paint: Paint,
     pub effect: Effect,
-}
-
-// The plan of any write. A frame write never looks at the register table, a register write once.
-pub fn of(card: Card, w: Write) -> Plan
-    ensures { λ r. ⌜ r ≡ planOf card w ⌝ }
-{
-    if w.space == REGISTERS {
-        register::of(card, w)
-    } else {
-        frame::of(card, w)
-    }
 }

@@ -9,7 +9,7 @@ use lib.ListN.{length, take, drop}
 use borrow.Author.Tests.{eq-eqb, ne-eqb, le-leb, lt-leb}
 use Rattle.card.specs.declared.Card.{Card}
 use Rattle.card.specs.Reset.{resetCard}
-use Rattle.recording.specs.Traces.{checkNumber, checkPart, checkLength}
+use Rattle.format.specs.Traces.{checkNumber, checkPart, checkLength}
 use Rattle.trace.specs.Run.{State, run}
 use Rattle.player.specs.declared.Played.{Played}
 use Rattle.player.specs.Playing.{whole, played, pictured}

@@ -5,7 +5,7 @@ use Prim.Native.Nat.{ℕ, _-_, _^_}
 use lib.Dec.{eqb, leb}
 use lib.ListN.{length, take, drop}
 use Rattle.card.specs.Reset.{resetCard}
-use Rattle.recording.specs.Traces.{checkNumber, checkPart, checkLength}
+use Rattle.format.specs.Traces.{checkNumber, checkPart, checkLength}
 use Rattle.trace.specs.Run.{State, run}
 use Rattle.player.specs.declared.Played.{Played}
 

@@ -10,13 +10,14 @@ use lib.Seq.{sets, sets-eq, take-append-seam, drop-append-add, drop-drop, drop-a
 use borrow.Author.Tests.{eq-eqb, ne-eqb}
 use Rattle.card.specs.declared.Write.{Write}
 use Rattle.span.specs.Fragments.{Bytes}
-use Rattle.recording.specs.Bytes.{word, bytes}
-use Rattle.recording.specs.Traces.{largest, header, entry, entries, encoded, entryCount, writes}
+use Rattle.format.specs.Bytes.{word, wordAt, bytes}
+use Rattle.format.specs.Traces.{largest, header, entry, entries, encoded, entryCount, writes}
 use Rattle.recording.specs.Recording.{startNumber, startLength, started, appendNumber, appendLength, appended}
-use Rattle.recording.proofs.Bytes.{word-take, front}
-use Rattle.recording.proofs.Tested.{Traced, traced, formed, counted}
+use Rattle.format.proofs.Bytes.{word-take, front}
+use Rattle.format.proofs.Inside.{word-inside}
+use Rattle.format.proofs.Tested.{Traced, traced, formed, counted}
 use Rattle.recording.proofs.RecordingTests.{room-to-start, Appendable, appendable}
-use Rattle.recording.proofs.Encoding.{encoded-writes, length-writes}
+use Rattle.format.proofs.Encoding.{encoded-writes, length-writes}
 
 -- stores from the end of p on leave p
 sets-seam : (p q xs : List ℕ) (n : ℕ) → length p ≡ n → length xs ≤ length q → sets (p ++ q) n xs ≡ (p ++ xs) ++ drop (length xs) q
@@ -106,6 +107,13 @@ module _ (b : List ℕ) (used : ℕ) (a : Appendable b used) where
   length-so-far : length so-far ≡ word b 0
   length-so-far = length-writes (drop 16 t) ∙ counted t is ∙ same-count
 
+  -- what the code reads of the header
+  pub count-read : wordAt b 0 ≡ word b 0
+  count-read = word-inside b 0 (omega (arith, header-within, a .within))
+
+  pub vram-read : wordAt b 8 ≡ word b 8
+  vram-read = word-inside b 8 (omega (arith, header-within, a .within))
+
   pub count-below : word b 0 < largest
   count-below =
       let few : entryCount (drop 16 t) ≤ largest = formed (drop 16 t) (is .entries) .few in
@@ -135,11 +143,12 @@ module _ (b : List ℕ) (used : ℕ) (a : Appendable b used) where
 
 pub now-appended : (b : List ℕ) (used : ℕ) (w : Write) → Bytes b → {n count vram : ℕ} {v₁ v₂ : List ℕ}
     → n ≡ appendNumber b used w → n ≡ 0
-    → count ≡ word b 0 → vram ≡ word b 8
+    → count ≡ wordAt b 0 → vram ≡ wordAt b 8
     → v₁ ≡ sets b 0 (header (count + 1) vram) → v₂ ≡ sets v₁ used (entry w)
     → (n ≡ appendNumber b used w) × (used + 12 ≡ appendLength b used w) × (v₂ ≡ appended b used w)
 unfolding appendLength appended
 now-appended b used w fits e h ec ev s₁ s₂ =
     let z : eqb (appendNumber b used w) 0 ≡ true = eq-eqb _ _ (sym e ∙ h) in
-    let stored = stored-entry b used (appendable b used w (sym e ∙ h)) w fits in
-    (e, rw z, rw z (s₂ ∙ ap (λ (l : List ℕ). sets l used (entry w)) (s₁ ∙ cc (ec, ev)) ∙ stored))
+    let a = appendable b used w (sym e ∙ h) in
+    let stored = stored-entry b used a w fits in
+    (e, rw z, rw z (s₂ ∙ ap (λ (l : List ℕ). sets l used (entry w)) (s₁ ∙ cc (ec, ev, count-read b used a, vram-read b used a)) ∙ stored))

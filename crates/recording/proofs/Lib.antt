@@ -1,14 +1,5 @@
--- The laws of the crate `recording`: traces as bytes and back.
-pub mod Bytes
+-- The laws of the crate `recording`: traces written as bytes, and read back.
 pub mod Stores
-pub mod Padding
-pub mod Inside
-pub mod HeaderTests
-pub mod Parts
-pub mod Tested
-pub mod Checking
-pub mod Encoding
-pub mod Decoding
 pub mod RecordingTests
 pub mod Growing
 pub mod RoundTrip

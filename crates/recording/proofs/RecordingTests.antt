@@ -10,8 +10,8 @@ use lib.ListN.{length, take}
 use borrow.Author.Tests.{eq-eqb, ne-eqb, lt-ltb, le-ltb, ltb-false, eqb-false, not-false}
 use Rattle.card.specs.declared.Write.{Write}
 use Rattle.rules.specs.Refusal.{badLength, badSpace}
-use Rattle.recording.specs.Bytes.{word}
-use Rattle.recording.specs.Traces.{largest, isTrace}
+use Rattle.format.specs.Bytes.{word}
+use Rattle.format.specs.Traces.{largest, isTrace}
 use Rattle.recording.specs.Recording.{startNumber, appendNumber}
 
 or-true : (b : Bool) → b || true ≡ true

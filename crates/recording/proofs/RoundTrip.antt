@@ -12,13 +12,13 @@ use borrow.Author.Tests.{eq-eqb, ne-eqb}
 use Rattle.card.specs.declared.Write.{Write}
 use Rattle.rules.specs.Refusal.{badLength}
 use Rattle.span.specs.Fragments.{Bytes}
-use Rattle.recording.specs.Bytes.{word}
-use Rattle.recording.specs.Traces.{largest, Delivered, encoded, writes, wellFormed, isTrace, malformed, trace, decoded, checkNumber, checkLength, checkPart}
+use Rattle.format.specs.Bytes.{word}
+use Rattle.format.specs.Traces.{largest, Delivered, encoded, writes, wellFormed, isTrace, malformed, trace, decoded, checkNumber, checkLength, checkPart}
 use Rattle.recording.specs.Recording.{startNumber, startLength, started, appendNumber, appendLength, appended}
-use Rattle.recording.proofs.Tested.{traced}
-use Rattle.recording.proofs.Checking.{good}
-use Rattle.recording.proofs.Encoding.{encoded-writes}
-use Rattle.recording.proofs.Decoding.{Every, none, more, count-word, vram-word, body, writes-entries, length-encoded, encoded-trace, decoded-encoded}
+use Rattle.format.proofs.Tested.{traced}
+use Rattle.format.proofs.Checking.{good}
+use Rattle.format.proofs.Encoding.{encoded-writes}
+use Rattle.format.proofs.Decoding.{Every, none, more, count-word, vram-word, body, writes-entries, length-encoded, encoded-trace, decoded-encoded}
 use Rattle.recording.proofs.RecordingTests.{good-start, appendable}
 use Rattle.recording.proofs.Growing.{same-count, count-below}
 

@@ -1,14 +1,30 @@
 -- Runs of stores, one after the other: adjacent stores are one. So an entry is stored, and a header. Assumes nothing.
 use mathlib.Core.Path.{_≡_, refl, ap, sym, _∙_}
 use mathlib.Core.List.{List, [], _∷_, _++_}
-use Prim.Native.Nat.{ℕ, suc, _+_, _*_}
+use Prim.Native.Nat.{ℕ, suc, _+_, _*_, _/_, _%_}
+use native.Mathlib.Nat.{div-one}
 use native.Mathlib.Omega.{arith}
 use lib.ListN.{length, set}
 use lib.Seq.{sets}
+use Rattle.span.specs.Fragments.{byte}
 use Rattle.card.specs.declared.Write.{Write}
-use Rattle.recording.specs.Bytes.{bytes}
-use Rattle.recording.specs.Traces.{header, entry}
+use Rattle.format.specs.Bytes.{bytes}
+use Rattle.format.specs.Traces.{header, entry}
 
+-- four stores, as the code makes them
+pub put-four : (v : List ℕ) (a x y z t : ℕ) → set (set (set (set v a x) (a + 1) y) (a + 2) z) (a + 3) t ≡ sets v a (x ∷ y ∷ z ∷ t ∷ [])
+put-four v a x y z t =
+    let e1 : suc a ≡ a + 1 = omega arith in
+    let e2 : suc (suc a) ≡ a + 2 = omega arith in
+    let e3 : suc (suc (suc a)) ≡ a + 3 = omega arith in
+    rw (e3, e2, e1)
+
+-- the bytes of a number, as the code makes them
+pub made-bytes : (x : ℕ) → x % 256 ∷ x / 256 % 256 ∷ x / 65536 % 256 ∷ x / 16777216 % 256 ∷ [] ≡ bytes x
+unfolding bytes byte
+made-bytes x = rw div-one
+
+-- adjacent stores are one
 adjacent : (v : List ℕ) (a : ℕ) (xs ys : List ℕ) → sets (sets v a xs) (a + length xs) ys ≡ sets v a (xs ++ ys)
 adjacent v a [] ys = ap (λ (i : ℕ). sets v i ys) (omega arith)
 adjacent v a (x ∷ xs) ys = ap (λ (i : ℕ). sets (sets v a (x ∷ xs)) i ys) (omega arith) ∙ adjacent (set v a x) (suc a) xs ys

@@ -1,4 +1,2 @@
--- What the crate `recording` means: scope paper, "Traces".
-pub mod Bytes
-pub mod Traces
+-- What the crate `recording` means: scope paper, "Traces", starting and appending.
 pub mod Recording

@@ -7,8 +7,8 @@ use lib.Dec.{eqb, ltb}
 use lib.ListN.{length, take, drop}
 use Rattle.card.specs.declared.Write.{Write}
 use Rattle.rules.specs.Refusal.{badLength, badSpace}
-use Rattle.recording.specs.Bytes.{word}
-use Rattle.recording.specs.Traces.{headerSize, entrySize, largest, encoded, writes, isTrace}
+use Rattle.format.specs.Bytes.{word}
+use Rattle.format.specs.Traces.{headerSize, entrySize, largest, encoded, writes, isTrace}
 
 -- 1, then 11 if the buffer has under 16
 unfoldable pub startNumber : ℕ → ℕ → ℕ

@@ -2,15 +2,15 @@
 ghost use mathlib.Core.Path.{_≡_};
 ghost use lib.ListN.{length};
 ghost use Rattle.recording.specs.Recording.{startNumber, startLength, started, appendNumber, appendLength, appended};
-use crate::ENTRY;
-use crate::HEADER;
-use crate::LARGEST;
 use crate::Length;
-use crate::entries::put_entry;
-use crate::headers::is_trace;
-use crate::headers::put_header;
-use crate::words::word_at;
+use crate::storing::put_entry;
+use crate::storing::put_header;
 use card::Write;
+use format::ENTRY;
+use format::HEADER;
+use format::LARGEST;
+use format::is_trace;
+use format::word_at;
 use rules::refusal::bad_length;
 use rules::refusal::bad_space;
 

@@ -71,7 +71,7 @@ fn save(vram: &[u8], n: usize, width: usize) {
 fn run(file: i32, width: usize, held: u8, vram: &mut [u8]) {
     let mut bytes = io::large_buffer();
     let n = io::read_full(file, &mut bytes);
-    if recording::HEADER + recording::ENTRY * recording::LARGEST < n {
+    if format::HEADER + format::ENTRY * format::LARGEST < n {
         complain(b"the trace is larger than the limit");
         return;
     }

@@ -12,9 +12,9 @@ use Rattle.card.specs.declared.Card.{Card}
 use Rattle.card.specs.declared.Write.{Write}
 use Rattle.rules.specs.Refusal.{badLength}
 use Rattle.rules.specs.Writes.{count}
-use Rattle.recording.specs.Traces.{entryCount, writes, wellFormed}
-use Rattle.recording.proofs.Tested.{formed}
-use Rattle.recording.proofs.Encoding.{length-writes}
+use Rattle.format.specs.Traces.{entryCount, writes, wellFormed}
+use Rattle.format.proofs.Tested.{formed}
+use Rattle.format.proofs.Encoding.{length-writes}
 use Rattle.trace.specs.Run.{State, nothing, answer, apply, refuse, ran, run, unread}
 use Rattle.trace.proofs.Remaining.{left-formed, left-writes}
 use Rattle.trace.proofs.Runs.{Runs, ends, spent, refused, applied, runs, steps, counts, runs-within-entries, keeps-length, ran-refused, ran-applied, run-malformed, run-bad, run-good}

@@ -18,9 +18,9 @@ use Rattle.rules.specs.Sequences.{cardAfter, pictureAfter}
 use Rattle.demands.proofs.Counting.{count-bound}
 use Rattle.demands.proofs.Demand1.{answered}
 use Rattle.demands.proofs.Demand2.{held-through, held-chosen}
-use Rattle.recording.specs.Traces.{largest, entryCount, writes, wellFormed}
-use Rattle.recording.proofs.Tested.{Formed, formed}
-use Rattle.recording.proofs.Encoding.{length-writes}
+use Rattle.format.specs.Traces.{largest, entryCount, writes, wellFormed}
+use Rattle.format.proofs.Tested.{Formed, formed}
+use Rattle.format.proofs.Encoding.{length-writes}
 use Rattle.trace.specs.Run.{State, nothing, apply, refuse, ran, run, unread}
 use Rattle.trace.proofs.Remaining.{left-writes}
 use Rattle.trace.proofs.Runs.{Runs, ends, spent, refused, applied, runs, steps, counts, runs-within-budget, runs-within-entries, run-malformed, run-bad, run-good}

@@ -7,10 +7,10 @@ use native.Mathlib.Nat.{add-zero, zero-add, suc-add}
 use native.Mathlib.Omega.{arith}
 use lib.Dec.{eqb}
 use lib.ListN.{length, getD, drop, length-drop, drop-of-length-le}
-use Rattle.recording.specs.Traces.{entryCount, writesAt, paddedAt, writes, wellFormed}
-use Rattle.recording.proofs.Padding.{by-padding}
-use Rattle.recording.proofs.Tested.{both, Formed}
-use Rattle.recording.proofs.Decoding.{writesAt-drop, paddedAt-drop}
+use Rattle.format.specs.Traces.{entryCount, writesAt, paddedAt, writes, wellFormed}
+use Rattle.format.proofs.Padding.{by-padding}
+use Rattle.format.proofs.Tested.{both, Formed}
+use Rattle.format.proofs.Decoding.{writesAt-drop, paddedAt-drop}
 use Rattle.trace.specs.Run.{unread}
 
 -- past the end

@@ -8,7 +8,7 @@ use lib.ListN.{length, take}
 use Rattle.card.specs.declared.Card.{Card}
 use Rattle.card.specs.declared.Write.{Write}
 use Rattle.rules.specs.Refusal.{badLength}
-use Rattle.recording.specs.Traces.{checkPart}
+use Rattle.format.specs.Traces.{checkPart}
 use Rattle.recording.proofs.RoundTrip.{Recorded, checked}
 use Rattle.trace.specs.Run.{nothing, ran, run}
 

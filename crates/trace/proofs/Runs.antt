@@ -11,7 +11,7 @@ use Rattle.card.specs.declared.Card.{Card}
 use Rattle.card.specs.declared.Write.{Write}
 use Rattle.rules.specs.Refusal.{badLength}
 use Rattle.demands.proofs.Demand1.{same-length}
-use Rattle.recording.specs.Traces.{writes, wellFormed}
+use Rattle.format.specs.Traces.{writes, wellFormed}
 use Rattle.trace.specs.Run.{State, nothing, answer, apply, refuse, ran, run}
 
 -- from state s these writes under this budget go k entries far, to state r

@@ -7,8 +7,8 @@ use Rattle.card.specs.declared.Write.{Write}
 use Rattle.span.specs.Fragments.{byte}
 use Rattle.rules.specs.Refusal.{badLength}
 use Rattle.rules.proofs.Samples.{S1, S2, S3, S4, S5, S6, S7, S8, S9, S10, S11, samples}
-use Rattle.recording.specs.Bytes.{word, bytes}
-use Rattle.recording.specs.Traces.{header, entry, entries, encoded, writeAt, writesAt, paddedAt, writes, wellFormed, isTrace, trace, decoded}
+use Rattle.format.specs.Bytes.{word, bytes}
+use Rattle.format.specs.Traces.{header, entry, entries, encoded, writeAt, writesAt, paddedAt, writes, wellFormed, isTrace, trace, decoded}
 
 abbrev s1-write : Write
 s1-write = record { space = 0; lanes = 15; address = 0; «data» = 0x44332211 }

@@ -13,8 +13,8 @@ use Rattle.engine.specs.Contract.{Written}
 use Rattle.demands.proofs.Counting.{count-bound}
 use Rattle.demands.proofs.Demand1.{same-length}
 use Rattle.rules.proofs.Outcome.{picture-refused}
-use Rattle.recording.specs.Traces.{writeAt, entryAt, writesAt, entryCount, writes, wellFormed}
-use Rattle.recording.proofs.Inside.{inside}
+use Rattle.format.specs.Traces.{writeAt, entryAt, writesAt, entryCount, writes, wellFormed}
+use Rattle.format.proofs.Inside.{inside}
 use Rattle.trace.specs.Run.{State, answer, apply, refuse, ran, run}
 use Rattle.trace.proofs.Runs.{ran-refused, ran-applied, run-good}
 

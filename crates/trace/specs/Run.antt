@@ -8,7 +8,7 @@ use Rattle.card.specs.declared.Card.{Card}
 use Rattle.card.specs.declared.Write.{Write}
 use Rattle.rules.specs.Refusal.{badLength, refusal}
 use Rattle.rules.specs.Writes.{count, next, picture}
-use Rattle.recording.specs.Traces.{entrySize, writes, wellFormed}
+use Rattle.format.specs.Traces.{entrySize, writes, wellFormed}
 use Rattle.trace.specs.declared.Ran.{Ran}
 
 -- where a run stands: the number, the entries applied, the total pixels, the card and the picture

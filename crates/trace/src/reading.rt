@@ -1,7 +1,7 @@
 // The part of a trace's entries that is left unread.
 ghost use mathlib.Core.Path.{_≡_};
 ghost use Rattle.trace.specs.Run.{unread as unreadPart};
-use recording::ENTRY;
+use format::ENTRY;
 
 // The part after so many entries: after those that a run applied, what it left unread.
 pub fn unread(part: &[u8], applied: u32) -> &[u8]

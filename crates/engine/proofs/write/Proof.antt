@@ -23,8 +23,8 @@ use Rattle.engine.proofs.write.Tie as tie
 accepted : (c : Card) (w : Write) (n : ℕ) {p : Plan} {k : ℕ} → p ≡ planOf c w → k ≡ judged p w n → k ≡ 0 → refusal c w n ≡ 0
 accepted c w n of e z = sym (e ∙ (ap (λ (p : Plan). judged p w n) of ∙ planned-number c w n)) ∙ z
 
-of-requires : tie.Need-of-requires
-of-requires c κs = search needs
+plan-of-requires : tie.Need-plan-of-requires
+plan-of-requires c κs = search needs
 
 refuse-requires : tie.Need-refuse-requires
 refuse-requires c κs = search needs
@@ -33,7 +33,7 @@ returns : tie.Need-returns
 returns c =
     let a = c .before .before .before .before .args in
     let v = now (a .vram) in
-    let n = c .before .refuse .ensures ∙ (ap (λ (p : Plan). judged p (a .w) (length v)) (c .before .before .of .ensures) ∙ planned-number (a .card) (a .w) (length v)) in
+    let n = c .before .refuse .ensures ∙ (ap (λ (p : Plan). judged p (a .w) (length v)) (c .before .before .plan-of .ensures) ∙ planned-number (a .card) (a .w) (length v)) in
     let no : refusal (a .card) (a .w) (length v) ≡ 0 → ⊥ = λ e. c .if1 .taken (n ∙ e) in
     record {
       number = n;
@@ -46,7 +46,7 @@ left-requires : tie.Need-left-requires
 left-requires c κs =
     let a = c .before .before .before .before .before .args in
     let v = now (a .vram) in
-    let of = c .before .before .before .of .ensures in
+    let of = c .before .before .before .plan-of .ensures in
     subst (λ (p : Plan). Within (p .effect) (a .w) (length v)) (sym of)
     (planned-within (a .card) (a .w) v (accepted (a .card) (a .w) (length v) of (c .before .before .refuse .ensures) (c .before .if1 .left)))
 
@@ -54,7 +54,7 @@ planned-requires : tie.Need-planned-requires
 planned-requires c κs =
     let a = c .before .before .before .before .before .before .before .args in
     let v = now (a .vram) in
-    let of = c .before .before .before .before .before .of .ensures in
+    let of = c .before .before .before .before .before .plan-of .ensures in
     let ok = accepted (a .card) (a .w) (length v) of (c .before .before .before .before .refuse .ensures) (c .before .before .before .if1 .left) in (
       subst (λ (p : Plan). p .first + p .width ≤ length v) (sym of) (planned-inside (a .card) (a .w) v ok),
       subst (λ (p : Plan). isWhole (p .paint) ≡ true → p .width ≡ 64) (sym of) (planned-whole (a .card) (a .w)),
@@ -67,7 +67,7 @@ returns-2 : tie.Need-returns-2
 returns-2 c =
     let a = c .before .before .before .before .before .before .before .before .before .before .args in
     let v = now (a .vram) in
-    let of = c .before .before .before .before .before .before .before .before .of .ensures in
+    let of = c .before .before .before .before .before .before .before .before .plan-of .ensures in
     let ok = accepted (a .card) (a .w) (length v) of (c .before .before .before .before .before .before .before .refuse .ensures) (c .before .before .before .before .before .before .if1 .left) in
     let drew = c .before .before .planned .ensures in
     record {
@@ -81,7 +81,7 @@ pub write-spec : {M : Type 1} → statement M
 write-spec =
     tie.close
     (tie.spec
-    of-requires
+    plan-of-requires
     refuse-requires
     returns
     left-requires

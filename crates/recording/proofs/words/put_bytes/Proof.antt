@@ -1,7 +1,7 @@
 -- `recording::words::put_bytes` meets its contract. Assumes nothing.
 use lib.ListN.{length-set}
 use native.Mathlib.Omega.{arith}
-use Rattle.recording.proofs.Bytes.{put-four}
+use Rattle.recording.proofs.Stores.{put-four}
 use borrow.Author.Needs.{needs}
 use Rattle.recording.proofs.words.put_bytes.Statement.{statement}
 use Rattle.recording.proofs.words.put_bytes.Tie as tie

@@ -1,7 +1,7 @@
 -- `recording::words::put_word` meets its contract. Assumes nothing.
 use mathlib.Core.Path.{ap, _∙_}
 use lib.Seq.{sets}
-use Rattle.recording.proofs.Bytes.{made-bytes}
+use Rattle.recording.proofs.Stores.{made-bytes}
 use borrow.Author.Needs.{needs}
 use Rattle.recording.proofs.words.put_word.Statement.{statement}
 use Rattle.recording.proofs.words.put_word.Tie as tie

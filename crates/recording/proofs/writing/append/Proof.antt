@@ -2,7 +2,7 @@
 use mathlib.Core.Path.{sym, _∙_}
 use native.Mathlib.Omega.{arith}
 use Rattle.recording.proofs.RecordingTests.{Appendable, appendable}
-use Rattle.recording.proofs.Growing.{header-within, count-below, not-appended, now-appended}
+use Rattle.recording.proofs.Growing.{header-within, count-read, count-below, not-appended, now-appended}
 use borrow.Author.Needs.{needs}
 use Rattle.recording.proofs.writing.append.Statement.{statement}
 use Rattle.recording.proofs.writing.append.Tie as tie
@@ -20,25 +20,22 @@ can : (c : tie.Else1) → Appendable (c .before .before .before .before .args .b
 can c = appendable _ _ _ (sym (c .before .append-number .ensures) ∙ c .if1 .left)
 
 word-at-requires : tie.Need-word-at-requires
-word-at-requires c κs =
-    let a = can (c .before) in
-    omega (arith, header-within _ _ a)
+word-at-requires c κs = search needs
 
 word-at-requires-2 : tie.Need-word-at-requires-2
-word-at-requires-2 c κs =
-    let a = can (c .before .before .before) in
-    omega (arith, header-within _ _ a)
+word-at-requires-2 c κs = search needs
 
 add-put-header : tie.Need-add-put-header
 add-put-header c =
     let count = c .before .before .before in
-    omega (arith, count .word-at .ensures, count-below _ _ (can (count .before .before)))
+    let a = can (count .before .before) in
+    omega (arith, count .word-at .ensures, count-read _ _ a, count-below _ _ a)
 
 put-header-requires : tie.Need-put-header-requires
 put-header-requires c κs =
     let count = c .before .before .before in
     let a = can (count .before .before) in
-    omega (arith, count .word-at .ensures, header-within _ _ a, count-below _ _ a)
+    omega (arith, count .word-at .ensures, header-within _ _ a, count-read _ _ a, count-below _ _ a)
 
 put-entry-requires : tie.Need-put-entry-requires
 put-entry-requires c κs =

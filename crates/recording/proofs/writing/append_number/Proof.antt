@@ -1,12 +1,14 @@
 -- `recording::writing::append_number` meets its contract: the tests in their order. Assumes nothing.
-use mathlib.Core.Path.{_≡_, sym}
+use mathlib.Core.Path.{_≡_, sym, _∙_}
 use mathlib.Core.Bool.{true}
 use Prim.Native.Nat.{_≤_}
+use native.Mathlib.Omega.{arith}
 use lib.ListN.{length, take}
 use lib.Seq.{length-take-le}
 use borrow.Author.Tests.{not-true, not-false}
 use Rattle.rules.proofs.Tests.{said}
-use Rattle.recording.specs.Traces.{isTrace}
+use Rattle.format.proofs.Inside.{word-inside}
+use Rattle.format.specs.Traces.{isTrace}
 use Rattle.recording.proofs.RecordingTests.{too-long, no-trace, bad-write, no-room, full, fits}
 use borrow.Author.Needs.{needs}
 use Rattle.recording.proofs.writing.append_number.Statement.{statement}
@@ -58,14 +60,14 @@ returns-5 c =
     let room = c .before .before in
     let space = room .before .before in
     let tested = space .before in
-    full _ _ _ (within tested) (yes-trace tested) (said (space .bad-space .ensures) (room .before .if3 .left)) (room .if4 .left) (c .before .word-at .ensures) (c .if5 .taken)
+    full _ _ _ (within tested) (yes-trace tested) (said (space .bad-space .ensures) (room .before .if3 .left)) (room .if4 .left) (c .before .word-at .ensures ∙ word-inside _ _ (omega (arith, room .if4 .left))) (c .if5 .taken)
 
 returns-6 : tie.Need-returns-6
 returns-6 c =
     let room = c .before .before in
     let space = room .before .before in
     let tested = space .before in
-    fits _ _ _ (within tested) (yes-trace tested) (said (space .bad-space .ensures) (room .before .if3 .left)) (room .if4 .left) (c .before .word-at .ensures) (c .if5 .left)
+    fits _ _ _ (within tested) (yes-trace tested) (said (space .bad-space .ensures) (room .before .if3 .left)) (room .if4 .left) (c .before .word-at .ensures ∙ word-inside _ _ (omega (arith, room .if4 .left))) (c .if5 .left)
 
 pub append-number-spec : {M : Type 1} → statement M
 append-number-spec =

@@ -1,6 +1,6 @@
 -- `trace::reading::unread` meets its contract. Assumes nothing.
 use Prim.Native.Nat.{_*_}
-use Rattle.recording.proofs.Parts.{from-on}
+use Rattle.format.proofs.Parts.{from-on}
 use Rattle.trace.specs.Run.{unread}
 use Rattle.trace.proofs.Remaining.{past}
 use borrow.Author.Needs.{needs}

@@ -9,8 +9,8 @@ use borrow.Author.Tests.{not-true, not-false}
 use lib.ListN.{length}
 use Rattle.rules.proofs.Tests.{said}
 use Rattle.rules.specs.Refusal.{badLength}
-use Rattle.recording.specs.Traces.{largest, entryCount, wellFormed}
-use Rattle.recording.proofs.Tested.{formed}
+use Rattle.format.specs.Traces.{largest, entryCount, wellFormed}
+use Rattle.format.proofs.Tested.{formed}
 use Rattle.trace.specs.Run.{run}
 use Rattle.trace.proofs.Runs.{run-malformed, run-bad}
 use Rattle.trace.proofs.Turns.{standing, remaining, all-left, all-read, all-spent, read-inside, turn-refused, turn-applied, turn-length, turn-pixels}

@@ -1,0 +1,136 @@
+// The plan of a frame write: one arm for each mode.
+ghost use mathlib.Core.Path.{_≡_};
+ghost use Rattle.rules.specs.Modes.{modeOf};
+ghost use Rattle.plan.specs.Plan.{framePlan, drawingPlan, copyPlan, halvedPlan};
+ghost use Rattle.plan.specs.declared.Paint.the-variants.{Words};
+use card::CLEAR;
+use card::Card;
+use card::ONES;
+use card::Write;
+use plan::Effect;
+use plan::Faults;
+use plan::LAST_OPERATION;
+use plan::Paint;
+use plan::Plan;
+use rules::Mode;
+use rules::refusal::ALL_LANES;
+
+// The operation that takes the source.
+const COPY: u8 = 3;
+
+// Of any frame write.
+pub fn plan(card: Card, w: Write) -> Plan
+    ensures { λ r. ⌜ r ≡ framePlan (modeOf (card .registers .mode)) card w ⌝ }
+{
+    let registers = card.registers;
+    let m = rules::mode_of(registers.mode);
+    let ink = registers.foreground;
+    let paper = registers.background;
+    let fill = registers.fill;
+    let op = (registers.raster % 16) as u8;
+    let pixels = card.mask.bits;
+    let data = w.data;
+    let address = w.address as usize;
+    let first = address + (data / 65536 % 4) as usize;
+    let width = data % 2048 + 1;
+    let faults = Faults {
+        lanes: w.lanes != ALL_LANES,
+        register: false,
+        mode: false,
+        raster: LAST_OPERATION < registers.raster,
+        address: w.address % 4 != 0,
+        source: false,
+    };
+    match m {
+        Mode::Simple => {
+            let mut faults = faults;
+            faults.lanes = false;
+            let enable = w.lanes as u32 & pixels;
+            let paint = words(ONES, data, 0, 0);
+            drawing(faults, address, 4, op, enable, paint)
+        }
+        Mode::OpaqueStipple => {
+            let paint = words(data, ink, paper, address);
+            drawing(faults, address, 32, op, pixels, paint)
+        }
+        Mode::TransparentStipple => {
+            let paint = words(ONES, ink, 0, address);
+            drawing(faults, address, 32, op, data, paint)
+        }
+        Mode::OpaqueFill => {
+            let paint = words(fill, ink, paper, first);
+            drawing(faults, first, width, op, ONES, paint)
+        }
+        Mode::TransparentFill => {
+            let paint = words(ONES, ink, 0, first);
+            drawing(faults, first, width, op, fill, paint)
+        }
+        Mode::BlockStipple => {
+            let paint = Paint::Colours { at: address };
+            drawing(faults, address, 32, COPY, data, paint)
+        }
+        Mode::BlockFill => {
+            let paint = Paint::Colours { at: first };
+            drawing(faults, first, width, COPY, fill, paint)
+        }
+        Mode::Copy => of_copy(faults, card.copier.writing, w, op),
+        Mode::Unlisted => {
+            let mut unlisted = faults;
+            unlisted.mode = true;
+            drawing(unlisted, 0, 0, op, 0, Paint::Half)
+        }
+    }
+}
+
+// A frame write in any mode but copy.
+fn drawing(faults: Faults, first: usize, width: u32, op: u8, enable: u32, paint: Paint) -> Plan
+    ensures { λ r. ⌜ r ≡ drawingPlan faults first width op enable paint ⌝ }
+{
+    Plan {
+        faults,
+        first,
+        width,
+        op,
+        enable,
+        paint,
+        effect: Effect::UsesMask,
+    }
+}
+
+fn words(pick: u32, ink: u32, paper: u32, at: usize) -> Paint
+    ensures { λ r. ⌜ r ≡ Words pick ink paper at ⌝ }
+{
+    Paint::Words {
+        pick,
+        ink,
+        paper,
+        at,
+    }
+}
+
+// Of a frame write in copy mode, whose halves alternate.
+fn of_copy(faults: Faults, writing: u32, w: Write, op: u8) -> Plan
+    ensures { λ r. ⌜ r ≡ copyPlan faults writing w op ⌝ }
+{
+    let mut faults = faults;
+    faults.address = w.address % 8 != 0;
+    let first = w.address as usize;
+    if writing == CLEAR {
+        return halved(faults, first, op, 0, Effect::ReadsSource);
+    }
+    halved(faults, first, op, w.data, Effect::DrawsDestination)
+}
+
+fn halved(faults: Faults, first: usize, op: u8, enable: u32, effect: Effect) -> Plan
+    ensures { λ r. ⌜ r ≡ halvedPlan faults first op enable effect ⌝ }
+{
+    Plan {
+        faults,
+        first,
+        width: 32,
+        op,
+        enable,
+        paint: Paint::Half,
+        effect,
+    }
+}

@@ -1,0 +1,2 @@
+-- The laws of read-back.
+pub mod Backwards

@@ -1,0 +1,2 @@
+-- What the crate `readback` means.
+pub mod ReadBack

@@ -1,0 +1,3 @@
+-- The laws of the plan of a register write.
+pub mod Others
+pub mod Arms
