@@ -3,16 +3,10 @@ use mathlib.Core.Path.{_≡_}
 use mathlib.Core.List.{List}
 use Prim.Native.Nat.{ℕ}
 use lib.ListN.{length}
-use Rattle.span.specs.Fragments.{drawn}
-use Rattle.span.specs.Spans.{spanned, enabledIn}
-use Rattle.span.specs.declared.Tally.{Tally}
 use Rattle.card.specs.declared.Card.{Card}
 use Rattle.card.specs.declared.Write.{Write}
-use Rattle.rules.specs.Modes.{effective}
-use Rattle.plan.specs.Plan.{planned}
 use Rattle.rules.specs.Refusal.{refusal}
 use Rattle.rules.specs.Writes.{count, next, picture}
-use Rattle.plan.specs.declared.Plan.{Plan}
 use Rattle.engine.specs.declared.Answer.{Answer}
 
 -- card c, write w and picture v gave answer r and picture v′
@@ -21,8 +15,3 @@ pub record Written (c : Card) (w : Write) (v : List ℕ) (r : Answer) (v′ : Li
   pub counts : r .tally .enabled ≡ count c w (length v)
   pub leaves : r .card ≡ next c w v
   pub shows : v′ ≡ picture c w v
-
--- plan p on card c and picture v gave answer r and picture v′: how `write` draws, not what has to be believed
-pub record CarriedOut (p : Plan) (c : Card) (v : List ℕ) (r : Tally) (v′ : List ℕ) : Type 0 where
-  pub shows : v′ ≡ drawn (p .op) (spanned (effective c) (planned p c)) v
-  pub counts : r .enabled ≡ enabledIn (planned p c)

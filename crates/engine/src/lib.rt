@@ -9,12 +9,6 @@ use card::Write;
 use plan::Plan;
 use span::Tally;
 
-mod after;
-mod brush;
-mod copy;
-mod draw;
-mod pattern;
-
 // What a write answers: its number, what was drawn, and the next card.
 pub struct Answer {
     pub number: u32,
@@ -48,8 +42,8 @@ pub fn write(card: Card, w: Write, vram: &mut [u8]) -> Answer
         };
     }
     let effect = p.effect;
-    let next = after::left(effect, card, w, vram);
-    let tally = draw::planned(p, card, vram);
+    let next = effects::left(effect, card, w, vram);
+    let tally = drawing::draw(p, card, vram);
     Answer {
         number: 0,
         tally,

@@ -1,6 +1,6 @@
 -- What an accepted write shows, counts and leaves is what its plan draws and its plan's effect. Assumes nothing.
 use mathlib.Core.Path.{_≡_, refl, ap, ap₂, sym, _∙_, subst}
-use mathlib.Core.Bool.{Bool, true, false, cond, _&&_}
+use mathlib.Core.Bool.{Bool, true, false, cond, not, _&&_, _||_}
 use mathlib.Core.List.{List}
 use Prim.Native.Nat.{ℕ, _+_, _%_, _≤_}
 use native.Mathlib.Nat.{mod-eq-of-lt}
@@ -8,7 +8,7 @@ use native.Mathlib.Decide.{ℕ-discrete}
 use native.Mathlib.Omega.{arith}
 use lib.Dec.{eqb}
 use lib.ListN.{length}
-use borrow.Author.Tests.{eq-eqb, ne-eqb, eqb-true}
+use borrow.Author.Tests.{eq-eqb, ne-eqb, eqb-true, le-leb, le-ltb}
 use Rattle.span.specs.Fragments.{drawn}
 use Rattle.span.specs.Spans.{spanned, enabledIn}
 use Rattle.card.specs.Registers.{code, stores, isSet, _is_}
@@ -16,7 +16,7 @@ use Rattle.card.specs.declared.Card.{Card}
 use Rattle.card.specs.declared.Write.{Write}
 use Rattle.card.specs.declared.Register.the-variants.{CopySource, CopyDestination}
 use Rattle.rules.specs.Modes.{modeOf, isBlock, isCopy, effective, registerOf, frameSpan}
-use Rattle.plan.specs.Plan.{frameEffect, framePlan, planOf, planned, left, Within}
+use Rattle.plan.specs.Plan.{frameEffect, framePlan, planOf, isWhole, planned, drawable, reads, loads, left, Within}
 use Rattle.rules.specs.Refusal.{refusal}
 use Rattle.rules.specs.Writes.{count, operation, picture, usedUp, alternated, afterFrame, afterRegister, next}
 use Rattle.rules.specs.declared.Mode.{Mode}
@@ -24,7 +24,7 @@ use Rattle.rules.specs.declared.Mode.the-variants.{Simple, OpaqueStipple, Trans
 use Rattle.plan.specs.declared.Effect.the-variants.{UsesMask, ReadsSource, DrawsDestination}
 use Rattle.plan.specs.declared.Plan.{Plan}
 use Rattle.rules.proofs.Outcome.{accepted-raster, accepted-space, picture-accepted, count-accepted, next-register, next-frame}
-use Rattle.plan.proofs.Plans.{plan, planned-draws, frame-plan, register-plan}
+use Rattle.plan.proofs.Plans.{plan, planned-draws, frame-plan, register-plan, planned-whole}
 use Rattle.plan.proofs.PlanNumber.{planned-inside}
 
 module _ (c : Card) (w : Write) where
@@ -60,40 +60,20 @@ module _ (c : Card) (w : Write) where
         ∙ (sym (planned-draws c w .1 (operation c w) v)
         ∙ ap (λ (op : ℕ). drawn op (spanned (effective c) (planned (planOf c w) c)) v) (sym planned-operation))
 
+    -- which can be drawn
+    pub planned-drawable : drawable (planOf c w) (length v) ≡ true
+    unfolding drawable
+    planned-drawable = rw (le-ltb _ _ (planned-inside c w v ok)) (wide (isWhole (planOf c w .paint)) (planned-whole c w))
+      where
+        wide : {n : ℕ} (b : Bool) → (b ≡ true → n ≡ 64) → not b || eqb n 64 ≡ true
+        wide true e = eq-eqb _ _ (e refl)
+        wide false e = refl
+
     pub planned-counts : count c w (length v) ≡ enabledIn (planned (planOf c w) c)
     planned-counts = count-accepted c w v ok ∙ sym (planned-draws c w .2)
 
-    -- and the card that it leaves is that of the planned effect
-    frame-leaves : (copies writing : Bool) → isSet (c .copier .writing) ≡ writing
-        → left (cond copies (cond writing DrawsDestination ReadsSource) UsesMask) c w v
-        ≡ record { registers = c .registers; mask = usedUp (c .mask); copier = alternated copies (c .copier) w v; held = c .held }
-    unfolding left
-    frame-leaves false writing e = refl
-    frame-leaves true true e = rw e
-    frame-leaves true false e = rw e
-
-    register-leaves : (s d : Bool) → registerOf w is CopySource ≡ s → registerOf w is CopyDestination ≡ d → left (plan c w s d .effect) c w v ≡ afterRegister c w v
-    unfolding left afterRegister stores
-    register-leaves true d es ed = rw (eqb-true (code (registerOf w)) (code CopySource) es)
-    register-leaves false true es ed = rw (eqb-true (code (registerOf w)) (code CopyDestination) ed)
-    register-leaves false false es ed = rw (es, ed)
-
-    pub planned-leaves : next c w v ≡ left (planOf c w .effect) c w v
-    unfolding afterFrame
-    planned-leaves = go (ℕ-discrete (w .space) 1)
-      where
-        go : Dec (w .space ≡ 1) → next c w v ≡ left (planOf c w .effect) c w v
-        go (yes h) =
-            next-register c w v ok h
-            ∙ sym (ap (λ (p : Plan). left (p .effect) c w v) (register-plan c w h)
-            ∙ register-leaves (registerOf w is CopySource) (registerOf w is CopyDestination) refl refl)
-        go (no h) =
-            next-frame c w v ok h
-            ∙ sym (ap (λ (p : Plan). left (p .effect) c w v) (frame-plan c w h)
-            ∙ frame-leaves (isCopy (modeOf (c .registers .mode))) (isSet (c .copier .writing)) refl)
-
     -- what the effect reads lies inside VRAM
-    pub planned-within : Within (planOf c w .effect) w (length v)
+    planned-within : Within (planOf c w .effect) w (length v)
     unfolding frameSpan
     planned-within = go (ℕ-discrete (w .space) 1)
       where
@@ -127,3 +107,36 @@ module _ (c : Card) (w : Write) where
         go (no h) =
             subst (λ (p : Plan). Within (p .effect) w (length v)) (sym (frame-plan c w h))
             (mode (modeOf (c .registers .mode)) (reach _ (frame-plan c w h)))
+
+    -- and the card that it leaves is that of the planned effect
+    frame-leaves : (copies writing : Bool) → isSet (c .copier .writing) ≡ writing
+        → Within (cond copies (cond writing DrawsDestination ReadsSource) UsesMask) w (length v)
+        → left (cond copies (cond writing DrawsDestination ReadsSource) UsesMask) c w v
+        ≡ record { registers = c .registers; mask = usedUp (c .mask); copier = alternated copies (c .copier) w v; held = c .held }
+    unfolding left reads
+    frame-leaves false writing e h = refl
+    frame-leaves true true e h = rw e
+    frame-leaves true false e h = rw (e, le-leb _ _ h)
+
+    register-leaves : (s d : Bool) → registerOf w is CopySource ≡ s → registerOf w is CopyDestination ≡ d
+        → Within (plan c w s d .effect) w (length v) → left (plan c w s d .effect) c w v ≡ afterRegister c w v
+    unfolding left loads afterRegister stores
+    register-leaves true d es ed h = rw (eqb-true (code (registerOf w)) (code CopySource) es, le-leb _ _ h)
+    register-leaves false true es ed h = rw (eqb-true (code (registerOf w)) (code CopyDestination) ed)
+    register-leaves false false es ed h = rw (es, ed)
+
+    pub planned-leaves : next c w v ≡ left (planOf c w .effect) c w v
+    unfolding afterFrame
+    planned-leaves = go (ℕ-discrete (w .space) 1)
+      where
+        go : Dec (w .space ≡ 1) → next c w v ≡ left (planOf c w .effect) c w v
+        go (yes h) =
+            next-register c w v ok h
+            ∙ sym (ap (λ (p : Plan). left (p .effect) c w v) (register-plan c w h)
+            ∙ register-leaves (registerOf w is CopySource) (registerOf w is CopyDestination) refl refl
+            (subst (λ (p : Plan). Within (p .effect) w (length v)) (register-plan c w h) planned-within))
+        go (no h) =
+            next-frame c w v ok h
+            ∙ sym (ap (λ (p : Plan). left (p .effect) c w v) (frame-plan c w h)
+            ∙ frame-leaves (isCopy (modeOf (c .registers .mode))) (isSet (c .copier .writing)) refl
+            (subst (λ (p : Plan). Within (p .effect) w (length v)) (frame-plan c w h) planned-within))

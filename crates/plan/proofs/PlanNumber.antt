@@ -16,7 +16,7 @@ use Rattle.rules.specs.Refusal.{badLength, badSpace, badLanes, noRegister, badM
 use Rattle.plan.specs.declared.Faults.{Faults}
 use Rattle.plan.specs.declared.Plan.{Plan}
 use Rattle.rules.proofs.Outcome.{accepted-passed}
-use Rattle.rules.proofs.Tests.{and-true, or-false}
+use Rattle.rules.proofs.Tests.{or-false}
 use Rattle.plan.proofs.Plans.{plan, planned-draws, frame-plan, register-plan}
 
 module _ (c : Card) (w : Write) where
@@ -38,7 +38,7 @@ module _ (c : Card) (w : Write) where
 
   register-faults : w .space ≡ 1 → registerFaults (registerOf w) c w ≡ faults
   unfolding badLanes noRegister badMode badRaster offBoundary unloaded
-  register-faults h = simp (eq-eqb (w .space) 1 h, and-true)
+  register-faults h = simp (eq-eqb (w .space) 1 h)
 
   plan-faults : (s d : Bool) → plan c w s d .faults ≡ registerFaults (registerOf w) c w
   plan-faults true d = refl

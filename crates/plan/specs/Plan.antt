@@ -4,8 +4,8 @@ use mathlib.Core.Bool.{Bool, true, false, cond, not, _&&_, _||_}
 use mathlib.Core.List.{List, [], _∷_}
 use Prim.Native.Nat.{ℕ, _+_, _-_, _/_, _%_, _^_, _≤_}
 use lib.Bits.{bitAnd}
-use lib.Dec.{eqb, ltb}
-use lib.ListN.{getD, take, drop}
+use lib.Dec.{eqb, leb, ltb}
+use lib.ListN.{length, getD, take, drop}
 use Rattle.raster.specs.Pixel.{bit}
 use Rattle.span.specs.Fragments.{byte}
 use Rattle.span.specs.Spans.{Span, span}
@@ -168,6 +168,13 @@ firstOf [] bs = 0
 firstOf (k ∷ ks) [] = 0
 firstOf (k ∷ ks) (b ∷ bs) = cond b k (firstOf ks bs)
 
+-- the whole copy buffer is taken
+abbrev pub isWhole : Paint → Bool
+isWhole (Words pick ink paper at) = false
+isWhole (Colours at) = false
+isWhole Half = false
+isWhole Whole = true
+
 -- what pixel j takes
 abbrev pub takenBy : Paint → Card → ℕ → ℕ
 takenBy (Words pick ink paper at) c j = cond (bit pick (j % 32)) (byte ink ((at + j) % 4)) (byte paper ((at + j) % 4))
@@ -179,19 +186,36 @@ takenBy Whole c j = getD (c .copier .buffer) j 0
 abbrev pub planned : Plan → Card → Span
 planned p c = span (p .first) (p .width) (λ j. bit (p .enable) (j % 32)) (takenBy (p .paint) c)
 
+-- it can be drawn in n bytes: the span lies inside, and the whole copy buffer is 64 pixels
+unfoldable pub drawable : Plan → ℕ → Bool
+drawable p n = not (ltb n (p .first + p .width)) && (not (isWhole (p .paint)) || eqb (p .width) 64)
+
 -- the card that it leaves
 abbrev withCopier : Card → Copier → Card
 withCopier c k = record { registers = c .registers; mask = c .mask; copier = k; held = c .held }
 
-abbrev used : Card → Copier → Card
+abbrev pub used : Card → Copier → Card
 used c k = record { registers = c .registers; mask = usedUp (c .mask); copier = k; held = c .held }
+
+-- the copier that has read pixels; its buffer stays where they do not all lie inside VRAM
+unfoldable pub reads : Copier → Write → List ℕ → Copier
+reads k w v =
+    record { buffer = cond (leb (w .address + 32) (length v)) (sourced (k .buffer) w v) (k .buffer); loaded = 0; writing = 1 }
+
+unfoldable pub loads : Copier → Write → List ℕ → Copier
+loads k w v =
+    record {
+      buffer = cond (leb (w .«data» + 64) (length v)) (take 64 (drop (w .«data») v)) (k .buffer);
+      loaded = 1;
+      writing = k .writing;
+    }
 
 unfoldable pub left : Effect → Card → Write → List ℕ → Card
 left UsesMask c w v = used c (c .copier)
-left ReadsSource c w v = used c (record { buffer = sourced (c .copier .buffer) w v; loaded = 0; writing = 1 })
+left ReadsSource c w v = used c (reads (c .copier) w v)
 left DrawsDestination c w v = used c (record { buffer = c .copier .buffer; loaded = c .copier .loaded; writing = 0 })
 left (Stores g x) c w v = stores c g x
-left Loads c w v = withCopier c (record { buffer = take 64 (drop (w .«data») v); loaded = 1; writing = c .copier .writing })
+left Loads c w v = withCopier c (loads (c .copier) w v)
 left Unloads c w v = withCopier c (record { buffer = c .copier .buffer; loaded = 0; writing = c .copier .writing })
 
 -- what the effect reads of a VRAM of n bytes lies inside it
@@ -202,10 +226,3 @@ Within DrawsDestination w n = Unit
 Within (Stores g x) w n = Unit
 Within Loads w n = w .«data» + 64 ≤ n
 Within Unloads w n = Unit
-
--- the whole copy buffer is taken
-abbrev pub isWhole : Paint → Bool
-isWhole (Words pick ink paper at) = false
-isWhole (Colours at) = false
-isWhole Half = false
-isWhole Whole = true

@@ -8,8 +8,8 @@ use card::Write;
 use rules::refusal::bad_length;
 use rules::refusal::bad_space;
 
-// 8. It takes away and never adds, so nothing wraps.
-fn past_end(first: usize, width: u32, n: usize) -> bool
+// 8: the span ends past n bytes. It takes away and never adds, so nothing wraps.
+pub fn past_end(first: usize, width: u32, n: usize) -> bool
     ensures { λ r. ⌜ r ≡ ltb n (first + width) ⌝ }
 {
     if n < first {

@@ -1,0 +1,39 @@
+-- `drawing::pattern::two_words` meets its contract: byte by byte. Assumes nothing.
+use native.Mathlib.Nat.{div-one}
+use Rattle.span.specs.Fragments.{listed, byte}
+use borrow.Author.Needs.{needs}
+use Rattle.drawing.proofs.pattern.two_words.Statement.{statement}
+use Rattle.drawing.proofs.pattern.two_words.Tie as tie
+
+cast-t4 : tie.Need-cast-t4
+cast-t4 c = search needs
+
+cast-t7 : tie.Need-cast-t7
+cast-t7 c = search needs
+
+cast-t10 : tie.Need-cast-t10
+cast-t10 c = search needs
+
+cast-t13 : tie.Need-cast-t13
+cast-t13 c = search needs
+
+cast-t15 : tie.Need-cast-t15
+cast-t15 c = search needs
+
+cast-t18 : tie.Need-cast-t18
+cast-t18 c = search needs
+
+cast-t21 : tie.Need-cast-t21
+cast-t21 c = search needs
+
+cast-t24 : tie.Need-cast-t24
+cast-t24 c = search needs
+
+returns : tie.Need-returns
+unfolding listed byte
+returns c = simp div-one
+
+pub two-words-spec : {M : Type 1} → statement M
+two-words-spec =
+    tie.close
+    (tie.spec cast-t4 cast-t7 cast-t10 cast-t13 cast-t15 cast-t18 cast-t21 cast-t24 returns)

@@ -1,0 +1,2 @@
+-- What the crate `drawing` promises.
+pub mod Contract
