@@ -7,7 +7,7 @@ use crate::readings::sent;
 use card::Card;
 
 fn reads_nothing(t: Tally, card: Card, offset: u32) -> Tally {
-    let r = card::read(card, offset);
+    let r = access::read(card, offset);
     with(t, r.number == 4 && r.value == 0)
 }
 

@@ -30,7 +30,7 @@ const ROWS: [[u32; 4]; 17] = [
 ];
 
 fn reads(t: Tally, card: Card, offset: u32, value: u32) -> Tally {
-    let r = card::read(card, offset);
+    let r = access::read(card, offset);
     with(t, r.number == 0 && r.value == value)
 }
 

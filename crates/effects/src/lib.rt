@@ -77,7 +77,7 @@ pub fn left(effect: Effect, card: Card, w: Write, vram: &[u8]) -> Card
             next.copier.writing = CLEAR;
             used(next)
         }
-        Effect::Stores { register, value } => card::store(card, register, value),
+        Effect::Stores { register, value } => access::store(card, register, value),
         Effect::Loads => {
             let read = after_load(copier, w, vram);
             next.copier = read;

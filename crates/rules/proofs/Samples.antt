@@ -8,7 +8,8 @@ use Rattle.raster.proofs.Samples.{s9}
 use Rattle.span.specs.Fragments.{byte, from, before, drawn, counted, listed}
 use Rattle.span.specs.Layers.{drawnAll}
 use Rattle.card.specs.declared.Write.{Write}
-use Rattle.card.specs.Registers.{rowAt, rowIn, table, stores}
+use Rattle.card.specs.Registers.{rowAt, rowIn, table}
+use Rattle.access.specs.Access.{stores}
 use Rattle.card.specs.Reset.{resetCard}
 use Rattle.span.specs.Spans.{spanned}
 use Rattle.rules.specs.Modes.{modeOf, frameSpan, spansOf, effectiveBy}

@@ -1,8 +1,7 @@
--- `card::store` meets its contract: each arm is the definition at that register. Assumes nothing.
-use Rattle.card.specs.Registers.{stores}
+-- `access::value` meets its contract: each arm is the definition at that register. Assumes nothing.
 use borrow.Author.Needs.{needs}
-use Rattle.card.proofs.store.Statement.{statement}
-use Rattle.card.proofs.store.Tie as tie
+use Rattle.access.proofs.value.Statement.{statement}
+use Rattle.access.proofs.value.Tie as tie
 
 enum-told : tie.Need-enum-told
 enum-told c = search needs
@@ -37,11 +36,11 @@ enum-known-register c = search needs
 cast-at : tie.Need-cast-at
 cast-at c = search needs
 
-mul-registers : tie.Need-mul-registers
-mul-registers c = search needs
+mul-result : tie.Need-mul-result
+mul-result c = search needs
 
-element-write-registers : tie.Need-element-write-registers
-element-write-registers c = search needs
+element-copy-out-result : tie.Need-element-copy-out-result
+element-copy-out-result c = search needs
 
 enum-told-10 : tie.Need-enum-told-10
 enum-told-10 c = search needs
@@ -53,59 +52,46 @@ enum-told-12 : tie.Need-enum-told-12
 enum-told-12 c = search needs
 
 returns : tie.Need-returns
-unfolding stores
-returns c = rw (c .before .enum-told .given .1)
+returns c = search needs
 
 returns-2 : tie.Need-returns-2
-unfolding stores
-returns-2 c = rw (c .before .enum-told2 .given .1)
+returns-2 c = search needs
 
 returns-3 : tie.Need-returns-3
-unfolding stores
-returns-3 c = rw (c .before .enum-told3 .given .1)
+returns-3 c = search needs
 
 returns-4 : tie.Need-returns-4
-unfolding stores
-returns-4 c = rw (c .before .before .enum-told4 .given .1)
+returns-4 c = search needs
 
 returns-5 : tie.Need-returns-5
-unfolding stores
-returns-5 c = rw (c .before .enum-told5 .given .1)
+returns-5 c = search needs
 
 returns-6 : tie.Need-returns-6
-unfolding stores
-returns-6 c = rw (c .before .enum-told6 .given .1)
+returns-6 c = search needs
 
 returns-7 : tie.Need-returns-7
-unfolding stores
-returns-7 c = rw (c .before .enum-told7 .given .1)
+returns-7 c = search needs
 
 returns-8 : tie.Need-returns-8
-unfolding stores
-returns-8 c = rw (c .before .before .enum-told8 .given .1)
+returns-8 c = search needs
 
 returns-9 : tie.Need-returns-9
-unfolding stores
-returns-9 c = rw (c .before .enum-told9 .given .1)
+returns-9 c = search needs
 
 returns-10 : tie.Need-returns-10
-unfolding stores
 returns-10 c = rw (c .before .before .register .given .1)
 
 returns-11 : tie.Need-returns-11
-unfolding stores
-returns-11 c = rw (c .enum-told10 .given .1)
+returns-11 c = search needs
 
 returns-12 : tie.Need-returns-12
-unfolding stores
-returns-12 c = rw (c .enum-told11 .given .1)
+returns-12 c = search needs
 
 returns-13 : tie.Need-returns-13
-unfolding stores
-returns-13 c = rw (c .enum-told12 .given .1)
+returns-13 c = search needs
 
-pub store-spec : {M : Type 1} → statement M
-store-spec =
+pub value-spec : {M : Type 1} → statement M
+value-spec =
     tie.close
     (tie.spec
     enum-told
@@ -119,8 +105,8 @@ store-spec =
     enum-told-9
     enum-known-register
     cast-at
-    mul-registers
-    element-write-registers
+    mul-result
+    element-copy-out-result
     enum-told-10
     enum-told-11
     enum-told-12

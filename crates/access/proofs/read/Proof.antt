@@ -1,13 +1,13 @@
--- `card::read` meets its contract: it goes by the table's row. Assumes nothing.
+-- `access::read` meets its contract: it goes by the table's row. Assumes nothing.
 use mathlib.Core.Path.{ap, ap₂, sym, _∙_}
 use Prim.Native.Nat.{ℕ}
 use lib.Bits.{bitAnd}
 use borrow.Author.Needs.{needs}
-use Rattle.card.specs.Registers.{holds}
+use Rattle.access.specs.Access.{holds}
 use Rattle.card.specs.declared.table.Row.{Row}
-use Rattle.card.proofs.Readings.{reading-held, reading-missing}
-use Rattle.card.proofs.read.Statement.{statement}
-use Rattle.card.proofs.read.Tie as tie
+use Rattle.access.proofs.Readings.{reading-held, reading-missing}
+use Rattle.access.proofs.read.Statement.{statement}
+use Rattle.access.proofs.read.Tie as tie
 
 find-requires : tie.Need-find-requires
 find-requires c κs = search needs

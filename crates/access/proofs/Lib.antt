@@ -1,0 +1,2 @@
+-- The laws of register reads.
+pub mod Readings

@@ -1,0 +1,2 @@
+-- What the crate `access` means.
+pub mod Access

@@ -1,2 +1,0 @@
--- The laws of the card's registers.
-pub mod Readings
