@@ -1,7 +1,5 @@
 // The composites of the raster operations, beside the scope paper's "How one pixel is made".
 ghost use Prim.Native.Nat.{_≤_};
-use crate::counting::NONE;
-use crate::counting::Tally;
 use crate::counting::with;
 
 // The new bit for source bit s and old bit d: bit (3 - 2s - d) of the operation.
@@ -28,20 +26,20 @@ fn composed(a: u8, b: u8) -> u8 {
         + composed_bit(a, b, 1, 1)
 }
 
-fn composes(t: Tally, a: u8, b: u8, right: u8) -> Tally {
-    with(t, raster::compose(a, b) == right)
+fn composes(right: u32, a: u8, b: u8, composite: u8) -> u32 {
+    with(right, raster::compose(a, b) == composite)
 }
 
-pub fn s9() -> Tally {
-    let t = composes(NONE, 6, 6, 5);
+pub fn s9() -> u32 {
+    let t = composes(0, 6, 6, 5);
     let t = composes(t, 3, 6, 0);
     let t = composes(t, 1, 7, 3);
     composes(t, 6, 1, 2)
 }
 
 // All sixteen rows of sixteen.
-pub fn by_the_rule() -> Tally {
-    let mut t = NONE;
+pub fn by_the_rule() -> u32 {
+    let mut t: u32 = 0;
     let mut i: u32 = 0;
     while i < 256 {
         let a = (i / 16) as u8;
@@ -53,8 +51,8 @@ pub fn by_the_rule() -> Tally {
 }
 
 // No operation is neutral on either side.
-pub fn with_five() -> Tally {
-    let mut t = NONE;
+pub fn with_five() -> u32 {
+    let mut t: u32 = 0;
     let mut a: u8 = 0;
     while a < 16 {
         t = composes(t, a, 5, a);
@@ -65,8 +63,8 @@ pub fn with_five() -> Tally {
 }
 
 // Every a, b and c: composing is associative.
-pub fn of_three() -> Tally {
-    let mut t = NONE;
+pub fn of_three() -> u32 {
+    let mut t: u32 = 0;
     let mut i: u32 = 0;
     while i < 4096 {
         let a = (i / 256) as u8;

@@ -1,15 +1,8 @@
 // Offsets that answer 4 with the number 0 when read, beside the scope paper's "Registers".
-use crate::counting::NONE;
-use crate::counting::Tally;
-use crate::counting::with;
 use crate::readings::all_written;
+use crate::readings::reads;
 use crate::readings::sent;
 use card::Card;
-
-fn reads_nothing(t: Tally, card: Card, offset: u32) -> Tally {
-    let r = access::read(card, offset);
-    with(t, r.number == 4 && r.value == 0)
-}
 
 // The offsets that can be read.
 fn listed(offset: u32) -> bool {
@@ -21,13 +14,13 @@ fn listed(offset: u32) -> bool {
 }
 
 // Every other offset below 1000h, 0160h and 0164h among them.
-pub fn low() -> Tally {
+pub fn low() -> u32 {
     let card = all_written();
-    let mut t = NONE;
+    let mut t: u32 = 0;
     let mut offset: u32 = 0;
     while offset < 0x1000 {
         if !listed(offset) {
-            t = reads_nothing(t, card, offset);
+            t = reads(t, card, offset, 4, 0);
         }
         offset += 1;
     }
@@ -35,22 +28,22 @@ pub fn low() -> Tally {
 }
 
 // Listed offsets with higher bits set, some of them aliases on the chip; and all ones.
-pub fn high() -> Tally {
+pub fn high() -> u32 {
     let card = all_written();
-    let t = reads_nothing(NONE, card, 0x0000_1020);
-    let t = reads_nothing(t, card, 0x0001_0028);
-    let t = reads_nothing(t, card, 0x000F_FE30);
-    let t = reads_nothing(t, card, 0x0010_0080);
-    let t = reads_nothing(t, card, 0x8000_0140);
-    reads_nothing(t, card, 0xFFFF_FFFF)
+    let t = reads(0, card, 0x0000_1020, 4, 0);
+    let t = reads(t, card, 0x0001_0028, 4, 0);
+    let t = reads(t, card, 0x000F_FE30, 4, 0);
+    let t = reads(t, card, 0x0010_0080, 4, 0);
+    let t = reads(t, card, 0x8000_0140, 4, 0);
+    reads(t, card, 0xFFFF_FFFF, 4, 0)
 }
 
 // At reset, with a source loaded, and with that copied.
-pub fn write_only() -> Tally {
+pub fn write_only() -> u32 {
     let card = Card::reset(0);
-    let t = reads_nothing(reads_nothing(NONE, card, 0x0160), card, 0x0164);
+    let t = reads(reads(0, card, 0x0160, 4, 0), card, 0x0164, 4, 0);
     let card = sent(card, 1, 0x0160, 0);
-    let t = reads_nothing(reads_nothing(t, card, 0x0160), card, 0x0164);
+    let t = reads(reads(t, card, 0x0160, 4, 0), card, 0x0164, 4, 0);
     let card = sent(card, 1, 0x0164, 0);
-    reads_nothing(reads_nothing(t, card, 0x0160), card, 0x0164)
+    reads(reads(t, card, 0x0160, 4, 0), card, 0x0164, 4, 0)
 }

@@ -1,7 +1,5 @@
 // Register reads, beside the scope paper's "Registers".
 ghost use Prim.Native.Nat.{_<_};
-use crate::counting::NONE;
-use crate::counting::Tally;
 use crate::counting::with;
 use card::Card;
 use card::Write;
@@ -9,29 +7,38 @@ use card::Write;
 const ONES: u32 = 0xFFFF_FFFF;
 
 // Every register that can be read: its offset, its value at reset, a value to write, and what is read once all are written.
-const ROWS: [[u32; 4]; 17] = [
-    [0x0020, 0, 0x1122_3344, 0x1122_3344], // foreground
-    [0x0024, 0, 0x5566_7788, 0x5566_7788], // background
-    [0x0028, ONES, 0x99AA_BBCC, 0x99AA_BBCC], // plane mask
-    [0x002C, ONES, 0x0F0F_0F0F, 0x33CC_33CC], // pixel mask, one value with that at 005Ch, which is written later
-    [0x0030, 0, 0x0000_0045, 0x0000_0045], // mode
-    [0x0034, 3, 0xFFFF_F0F6, 0x0000_0006], // raster operation, bits 3:0
-    [0x0038, 0, 0xFFFF_FFF0, 0x0000_0000], // pixel shift, bits 3:0
-    [0x005C, ONES, 0x33CC_33CC, 0x33CC_33CC], // pixel mask
-    [0x0080, 0, 0xDDEE_FF01, 0xDDEE_FF01], // data
-    [0x0140, 0, 0x8070_6050, 0x8070_6050], // block colours
-    [0x0144, 0, 0x8171_6151, 0x8171_6151],
-    [0x0148, 0, 0x8272_6252, 0x8272_6252],
-    [0x014C, 0, 0x8373_6353, 0x8373_6353],
-    [0x0150, 0, 0x8474_6454, 0x8474_6454],
-    [0x0154, 0, 0x8575_6555, 0x8575_6555],
-    [0x0158, 0, 0x8676_6656, 0x8676_6656],
-    [0x015C, 0, 0x8777_6757, 0x8777_6757],
-];
+fn row(i: usize) -> [u32; 4] {
+    match i {
+        0 => [0x0020, 0, 0x1122_3344, 0x1122_3344], // foreground
+        1 => [0x0024, 0, 0x5566_7788, 0x5566_7788], // background
+        2 => [0x0028, ONES, 0x99AA_BBCC, 0x99AA_BBCC], // plane mask
+        3 => [0x002C, ONES, 0x0F0F_0F0F, 0x33CC_33CC], // pixel mask, one value with that at 005Ch, which is written later
+        4 => [0x0030, 0, 0x0000_0045, 0x0000_0045], // mode
+        5 => [0x0034, 3, 0xFFFF_F0F6, 0x0000_0006], // raster operation, bits 3:0
+        6 => [0x0038, 0, 0xFFFF_FFF0, 0x0000_0000], // pixel shift, bits 3:0
+        7 => [0x005C, ONES, 0x33CC_33CC, 0x33CC_33CC], // pixel mask
+        8 => [0x0080, 0, 0xDDEE_FF01, 0xDDEE_FF01], // data
+        9 => [0x0140, 0, 0x8070_6050, 0x8070_6050], // block colours
+        10 => [0x0144, 0, 0x8171_6151, 0x8171_6151],
+        11 => [0x0148, 0, 0x8272_6252, 0x8272_6252],
+        12 => [0x014C, 0, 0x8373_6353, 0x8373_6353],
+        13 => [0x0150, 0, 0x8474_6454, 0x8474_6454],
+        14 => [0x0154, 0, 0x8575_6555, 0x8575_6555],
+        15 => [0x0158, 0, 0x8676_6656, 0x8676_6656],
+        _ => [0x015C, 0, 0x8777_6757, 0x8777_6757],
+    }
+}
 
-fn reads(t: Tally, card: Card, offset: u32, value: u32) -> Tally {
+fn cell(i: usize, k: usize) -> u32
+    requires { ⌜ k < 4 ⌝ }
+{
+    let r = row(i);
+    r[k]
+}
+
+pub fn reads(right: u32, card: Card, offset: u32, number: u32, value: u32) -> u32 {
     let r = access::read(card, offset);
-    with(t, r.number == 0 && r.value == value)
+    with(right, r.number == number && r.value == value)
 }
 
 // The card after a write, with 64 zeros for VRAM.
@@ -48,48 +55,46 @@ pub fn sent(card: Card, space: u8, address: u32, data: u32) -> Card {
 }
 
 // The readings of one column of the rows.
-fn column(card: Card, k: usize) -> Tally
+fn column(card: Card, k: usize) -> u32
     requires { ⌜ k < 4 ⌝ }
 {
-    let rows = ROWS;
-    let mut t = NONE;
+    let mut t: u32 = 0;
     let mut i: usize = 0;
     while i < 17 {
-        t = reads(t, card, rows[i][0], rows[i][k]);
+        t = reads(t, card, cell(i, 0), 0, cell(i, k));
         i += 1;
     }
     t
 }
 
-pub fn at_reset(held: u8) -> Tally {
+pub fn at_reset(held: u8) -> u32 {
     column(Card::reset(held), 1)
 }
 
 // Every register written, from the first row to the last.
 pub fn all_written() -> Card {
-    let rows = ROWS;
     let mut card = Card::reset(0);
     let mut i: usize = 0;
     while i < 17 {
-        card = sent(card, 1, rows[i][0], rows[i][2]);
+        card = sent(card, 1, cell(i, 0), cell(i, 2));
         i += 1;
     }
     card
 }
 
-pub fn after_writes() -> Tally {
+pub fn after_writes() -> u32 {
     column(all_written(), 3)
 }
 
-fn both(t: Tally, card: Card, value: u32) -> Tally {
-    reads(reads(t, card, 0x002C, value), card, 0x005C, value)
+fn both(right: u32, card: Card, value: u32) -> u32 {
+    reads(reads(right, card, 0x002C, 0, value), card, 0x005C, 0, value)
 }
 
 // One value at both offsets. A one-shot mask stays after a refused frame write, here past the end of VRAM, and is used up by an
 // accepted one; a lasting mask stays.
-pub fn pixel_mask() -> Tally {
+pub fn pixel_mask() -> u32 {
     let once = sent(Card::reset(0), 1, 0x002C, 0x0F0F_0F0F);
-    let t = both(NONE, once, 0x0F0F_0F0F);
+    let t = both(0, once, 0x0F0F_0F0F);
     let t = both(t, sent(once, 0, 64, 0), 0x0F0F_0F0F);
     let t = both(t, sent(once, 0, 0, 0), ONES);
     let lasting = sent(once, 1, 0x005C, 0x33CC_33CC);
@@ -97,27 +102,36 @@ pub fn pixel_mask() -> Tally {
     both(t, sent(lasting, 0, 0, 0), 0x33CC_33CC)
 }
 
-// Raster-operation bits 31:12 and 7:4, and pixel-shift bits 31:4.
-pub fn ignored_bits() -> Tally {
-    let card = Card::reset(0);
-    let t = reads(NONE, sent(card, 1, 0x0034, 0xFFFF_F00A), 0x0034, 0xA);
-    let t = reads(t, sent(card, 1, 0x0034, 0x0000_00F5), 0x0034, 0x5);
-    let t = reads(t, sent(card, 1, 0x0034, 0x8000_1090), 0x0034, 0x0);
-    let t = reads(t, sent(card, 1, 0x0034, 0xFFFF_F0FF), 0x0034, 0xF);
-    let t = reads(t, sent(card, 1, 0x0038, 0xFFFF_FFF0), 0x0038, 0);
-    reads(t, sent(card, 1, 0x0038, 0x0000_0010), 0x0038, 0)
+// What a register reads as, once written at reset.
+fn kept(right: u32, offset: u32, data: u32, value: u32) -> u32 {
+    reads(
+        right,
+        sent(Card::reset(0), 1, offset, data),
+        offset,
+        0,
+        value,
+    )
 }
 
-// A card handed in with a raster operation that no write leaves.
-fn holding(raster: u32) -> Card {
+// Raster-operation bits 31:12 and 7:4, and pixel-shift bits 31:4.
+pub fn ignored_bits() -> u32 {
+    let t = kept(0, 0x0034, 0xFFFF_F00A, 0xA);
+    let t = kept(t, 0x0034, 0x0000_00F5, 0x5);
+    let t = kept(t, 0x0034, 0x8000_1090, 0x0);
+    let t = kept(t, 0x0034, 0xFFFF_F0FF, 0xF);
+    let t = kept(t, 0x0038, 0xFFFF_FFF0, 0);
+    kept(t, 0x0038, 0x0000_0010, 0)
+}
+
+// A card handed in with a raster operation that no write leaves: the same bits of it.
+fn handed(right: u32, raster: u32, value: u32) -> u32 {
     let mut card = Card::reset(0);
     card.registers.raster = raster;
-    card
+    reads(right, card, 0x0034, 0, value)
 }
 
-// The same bits of such a card.
-pub fn handed_in() -> Tally {
-    let t = reads(NONE, holding(0xFFFF_F0F6), 0x0034, 0x6);
-    let t = reads(t, holding(0x0000_0F00), 0x0034, 0x0);
-    reads(t, holding(0x0000_000F), 0x0034, 0xF)
+pub fn handed_in() -> u32 {
+    let t = handed(0, 0xFFFF_F0F6, 0x6);
+    let t = handed(t, 0x0000_0F00, 0x0);
+    handed(t, 0x0000_000F, 0xF)
 }

@@ -204,13 +204,21 @@ fn wide(n: u8) -> u32 {
     n as u32
 }
 
+// The beat comes again every 64 columns.
+fn top(i: u8) -> u8 {
+    TOPS[(i % 64) as usize]
+}
+
+fn rows(i: u8) -> u32 {
+    wide(ROWS[(i % 64) as usize])
+}
+
 // The trace: a column for each of 240 places.
 fn trace(card: Card, vram: &mut [u8]) -> Card {
     let mut card = colour(card, 0x7F7F7F7F, vram);
     let mut i: u8 = 0;
     while i < 240 {
-        let k = (i % 64) as usize;
-        card = filled(card, i + 8, TOPS[k], 0, wide(ROWS[k]), vram);
+        card = filled(card, i + 8, top(i), 0, rows(i), vram);
         i += 1;
     }
     card
@@ -223,15 +231,10 @@ fn marks(card: Card, vram: &mut [u8]) -> Card {
     filled(card, 32, 124, 62, 1, vram)
 }
 
-// Exclusive-or in the caliper's colour.
-fn inked(card: Card, vram: &mut [u8]) -> Card {
-    let card = register(card, 0x0034, 6, vram);
-    register(card, 0x0020, 0x40404040, vram)
-}
-
-// The caliper, by exclusive-or. Made again from the same card, it is taken off.
+// The caliper, by exclusive-or in its colour. Made again from the same card, it is taken off.
 fn caliper(card: Card, vram: &mut [u8]) {
-    let card = inked(card, vram);
+    let card = register(card, 0x0034, 6, vram);
+    let card = register(card, 0x0020, 0x40404040, vram);
     marks(card, vram);
 }
 

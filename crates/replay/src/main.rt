@@ -46,25 +46,35 @@ fn held_argument(i: usize) -> Number {
     player::two_hex_digits(&text[..n])
 }
 
+fn picture(vram: &[u8], width: usize) {
+    let mut path = io::buffer();
+    let n = os::arg(2, &mut path);
+    show::picture(&path[..n], vram, width);
+}
+
+fn divides(width: usize, n: usize) -> bool {
+    if width == 0 {
+        complain(b"WIDTH is not 0");
+        return false;
+    }
+    if n % width != 0 {
+        complain(b"WIDTH does not divide the length of VRAM");
+        return false;
+    }
+    true
+}
+
 // The picture, in the file that the second argument names. After a refused entry it is the picture so far.
 fn save(vram: &[u8], n: usize, width: usize) {
-    let mut path = io::buffer();
     if os::arg_count() < 3 || n == 0 {
         return;
     }
     if vram.len() < n {
         return;
     }
-    if width == 0 {
-        complain(b"WIDTH is not 0");
-        return;
+    if divides(width, n) {
+        picture(&vram[0..n], width);
     }
-    if n % width != 0 {
-        complain(b"WIDTH does not divide the length of VRAM");
-        return;
-    }
-    let named = os::arg(2, &mut path);
-    show::picture(&path[..named], &vram[0..n], width);
 }
 
 // Runs the trace in the file, says how it went, and leaves the picture.
@@ -89,12 +99,20 @@ fn run_zeroed(file: i32, width: usize, held: u8) {
     run_lent(file, width, held, &mut vram);
 }
 
-fn main() {
-    let count = os::arg_count();
-    if count < 2 || 5 < count {
-        complain(b"usage: replay TRACE [PICTURE [WIDTH [HELD]]]");
+// Opens the trace that the first argument names, and runs it.
+fn replay(width: usize, held: u8) {
+    let mut path = io::buffer();
+    let n = os::arg(1, &mut path);
+    let file = os::open_read(&path[..n]);
+    if file < 0 {
+        os::fail(&path[..n]);
         return;
     }
+    run_zeroed(file, width, held);
+    libc::close(file);
+}
+
+fn with_arguments() {
     let width = decimal_argument(3, 512);
     if !width.ok {
         complain(b"WIDTH is a decimal number");
@@ -105,13 +123,14 @@ fn main() {
         complain(b"HELD is two hexadecimal digits");
         return;
     }
-    let mut path = io::buffer();
-    let n = os::arg(1, &mut path);
-    let file = os::open_read(&path[..n]);
-    if file < 0 {
-        os::fail(&path[..n]);
-        return;
+    replay(width.value as usize, (held.value % 256) as u8);
+}
+
+fn main() {
+    let count = os::arg_count();
+    if count < 2 || 5 < count {
+        complain(b"usage: replay TRACE [PICTURE [WIDTH [HELD]]]");
+    } else {
+        with_arguments();
     }
-    run_zeroed(file, width.value as usize, (held.value % 256) as u8);
-    libc::close(file);
 }

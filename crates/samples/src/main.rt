@@ -1,4 +1,5 @@
 // Samples S1 to S12 of the scope paper through the code, each compared with what it should be.
+ghost use Prim.Native.Nat.{_≤_};
 use card::Card;
 use card::Write;
 use libc::STDOUT_FILENO;
@@ -24,8 +25,9 @@ fn register(card: Card, offset: u32, data: u32) -> Card {
     a.card
 }
 
-fn says(name: &[u8], ok: bool) {
-    io::write_all(STDOUT_FILENO, name);
+fn says(sample: u64, ok: bool) {
+    io::write_all(STDOUT_FILENO, b"S");
+    io::print_decimal(STDOUT_FILENO, sample);
     if ok {
         io::write_all(STDOUT_FILENO, b" ok\n");
     } else {
@@ -33,30 +35,44 @@ fn says(name: &[u8], ok: bool) {
     }
 }
 
-// The write accepted with that count.
-fn counted(card: Card, w: Write, vram: &mut [u8], count: u32) -> bool {
-    let a = engine::write(card, w, vram);
-    if a.number != 0 {
-        return false;
-    }
-    a.tally.enabled == count
+// The write answers with that number and that count, and leaves the picture as it should be.
+fn leaves(
+    card: Card,
+    w: Write,
+    mut vram: [u8; 64],
+    right: [u8; 64],
+    number: u32,
+    count: u32,
+) -> bool {
+    let a = engine::write(card, w, &mut vram);
+    let same = check::same(&vram, &right);
+    same && a.number == number && a.tally.enabled == count
 }
 
-// And the picture as it should be.
-fn drawn(card: Card, w: Write, mut vram: [u8; 64], right: [u8; 64], count: u32) -> bool {
-    if !counted(card, w, &mut vram, count) {
-        return false;
-    }
-    check::same(&vram, &right)
+// An accepted write on 64 zeros.
+fn drawn(card: Card, w: Write, right: [u8; 64], count: u32) -> bool {
+    leaves(card, w, [0u8; 64], right, 0, count)
+}
+
+// A write that is refused so leaves 64 zeros, and counts no pixel.
+fn refused(card: Card, w: Write, number: u32) -> bool {
+    leaves(card, w, [0u8; 64], [0u8; 64], number, 0)
+}
+
+// The picture with four pixels set, from pixel p on.
+fn four(mut picture: [u8; 64], p: usize, a: u8, b: u8, c: u8, d: u8) -> [u8; 64]
+    requires { ⌜ p ≤ 60 ⌝ }
+{
+    picture[p] = a;
+    picture[p + 1] = b;
+    picture[p + 2] = c;
+    picture[p + 3] = d;
+    picture
 }
 
 fn s1() -> bool {
-    let mut right = [0u8; 64];
-    right[0] = 0x11;
-    right[1] = 0x22;
-    right[2] = 0x33;
-    right[3] = 0x44;
-    drawn(Card::reset(0), frame(0, 0x44332211), [0u8; 64], right, 4)
+    let right = four([0u8; 64], 0, 0x11, 0x22, 0x33, 0x44);
+    drawn(Card::reset(0), frame(0, 0x44332211), right, 4)
 }
 
 fn s2() -> bool {
@@ -66,19 +82,14 @@ fn s2() -> bool {
         address: 0,
         data: 0x44332211,
     };
-    let mut right = [0u8; 64];
-    right[0] = 0x11;
-    right[2] = 0x33;
-    drawn(Card::reset(0), w, [0u8; 64], right, 2)
+    let right = four([0u8; 64], 0, 0x11, 0, 0x33, 0);
+    drawn(Card::reset(0), w, right, 2)
 }
 
 fn s3() -> bool {
-    let mut right = [0xFFu8; 64];
-    right[0] = 0x80;
-    right[1] = 0x80;
-    right[2] = 0x80;
-    right[3] = 0x80;
-    drawn(Card::reset(0x80), frame(0, 0), [0xFFu8; 64], right, 4)
+    let ones = [0xFFu8; 64];
+    let right = four(ones, 0, 0x80, 0x80, 0x80, 0x80);
+    leaves(Card::reset(0x80), frame(0, 0), ones, right, 0, 4)
 }
 
 fn stipple() -> Card {
@@ -87,28 +98,9 @@ fn stipple() -> Card {
 }
 
 fn s4() -> bool {
-    let mut right = [0u8; 64];
-    right[32] = 0xAA;
-    right[63] = 0xAA;
-    drawn(stipple(), frame(32, 0x80000001), [0u8; 64], right, 2)
-}
-
-// The write refused with that number, and no pixel counted.
-fn answers(card: Card, w: Write, vram: &mut [u8], number: u32) -> bool {
-    let a = engine::write(card, w, vram);
-    if a.number != number {
-        return false;
-    }
-    a.tally.enabled == 0
-}
-
-// A write that is refused so leaves 64 zeros.
-fn refused(card: Card, w: Write, number: u32) -> bool {
-    let mut vram = [0u8; 64];
-    if !answers(card, w, &mut vram, number) {
-        return false;
-    }
-    check::same(&vram, &[0u8; 64])
+    let first = four([0u8; 64], 32, 0xAA, 0, 0, 0);
+    let right = four(first, 60, 0, 0, 0, 0xAA);
+    drawn(stipple(), frame(32, 0x80000001), right, 2)
 }
 
 fn s5() -> bool {
@@ -120,14 +112,9 @@ fn s6() -> bool {
     let card = register(card, 0x0020, 0x01010101);
     let card = register(card, 0x0024, 0x02020202);
     let card = register(card, 0x0080, 0xF);
-    let mut right = [0u8; 64];
-    right[2] = 1;
-    right[3] = 1;
-    right[4] = 1;
-    right[5] = 1;
-    right[6] = 2;
-    right[7] = 2;
-    drawn(card, frame(0, 0x00020005), [0u8; 64], right, 6)
+    let first = four([0u8; 64], 0, 0, 0, 1, 1);
+    let right = four(first, 4, 1, 1, 2, 2);
+    drawn(card, frame(0, 0x00020005), right, 6)
 }
 
 fn s7() -> bool {
@@ -135,27 +122,21 @@ fn s7() -> bool {
     let card = register(card, 0x0140, 0x03020100);
     let card = register(card, 0x0144, 0x07060504);
     let card = register(card, 0x0080, 0xFFFFFFFF);
-    let mut right = [0u8; 64];
-    right[4] = 4;
-    right[5] = 5;
-    right[6] = 6;
-    right[7] = 7;
-    drawn(card, frame(4, 3), [0u8; 64], right, 4)
+    let right = four([0u8; 64], 4, 4, 5, 6, 7);
+    drawn(card, frame(4, 3), right, 4)
 }
 
 fn s8() -> bool {
     let card = register(Card::reset(0), 0x0028, 0x0F);
-    let mut right = [0u8; 64];
-    right[0] = 0x0F;
-    drawn(card, frame(0, 0xFFFFFFFF), [0u8; 64], right, 4)
-}
-
-fn composes(a: u8, b: u8, right: u8) -> bool {
-    raster::compose(a, b) == right
+    let right = four([0u8; 64], 0, 0x0F, 0, 0, 0);
+    drawn(card, frame(0, 0xFFFFFFFF), right, 4)
 }
 
 fn s9() -> bool {
-    composes(6, 6, 5) && composes(3, 6, 0) && composes(1, 7, 3) && composes(6, 1, 2)
+    raster::compose(6, 6) == 5
+        && raster::compose(3, 6) == 0
+        && raster::compose(1, 7) == 3
+        && raster::compose(6, 1) == 2
 }
 
 // Bytes 0 to 31 equal their index.
@@ -305,7 +286,7 @@ fn s10() -> bool {
         return false;
     }
     let card = source.card;
-    drawn(card, frame(32, 0xFFFF), vram, COPIED, 16)
+    leaves(card, frame(32, 0xFFFF), vram, COPIED, 0, 16)
 }
 
 fn s11() -> bool {
@@ -367,16 +348,16 @@ fn s12() -> bool {
 }
 
 fn main() {
-    says(b"S1", s1());
-    says(b"S2", s2());
-    says(b"S3", s3());
-    says(b"S4", s4());
-    says(b"S5", s5());
-    says(b"S6", s6());
-    says(b"S7", s7());
-    says(b"S8", s8());
-    says(b"S9", s9());
-    says(b"S10", s10());
-    says(b"S11", s11());
-    says(b"S12", s12());
+    says(1, s1());
+    says(2, s2());
+    says(3, s3());
+    says(4, s4());
+    says(5, s5());
+    says(6, s6());
+    says(7, s7());
+    says(8, s8());
+    says(9, s9());
+    says(10, s10());
+    says(11, s11());
+    says(12, s12());
 }

@@ -19,20 +19,14 @@ colour-requires c κs = search needs
 loop-holds : tie.Need-loop-holds Inv-loop μ-loop
 loop-holds c = omega arith
 
-cast-k : tie.Need-cast-k Inv-loop μ-loop
-cast-k c = omega arith
-
 add-filled : tie.Need-add-filled Inv-loop μ-loop
 add-filled c = omega arith
 
-array-read-filled : tie.Need-array-read-filled Inv-loop μ-loop
-array-read-filled c = omega arith
+top-requires : tie.Need-top-requires Inv-loop μ-loop
+top-requires c κs = search needs
 
-array-read-wide : tie.Need-array-read-wide Inv-loop μ-loop
-array-read-wide c = omega arith
-
-wide-requires : tie.Need-wide-requires Inv-loop μ-loop
-wide-requires c κs = search needs
+rows-requires : tie.Need-rows-requires Inv-loop μ-loop
+rows-requires c κs = search needs
 
 filled-requires : tie.Need-filled-requires Inv-loop μ-loop
 filled-requires c κs = search needs
@@ -60,11 +54,9 @@ trace-spec =
     μ-loop
     colour-requires
     loop-holds
-    cast-k
     add-filled
-    array-read-filled
-    array-read-wide
-    wide-requires
+    top-requires
+    rows-requires
     filled-requires
     add-i
     loop-less

@@ -20,8 +20,8 @@ loop-holds c = omega arith
 listed-requires : tie.Need-listed-requires Inv-loop μ-loop
 listed-requires c κs = search needs
 
-reads-nothing-requires : tie.Need-reads-nothing-requires Inv-loop μ-loop
-reads-nothing-requires c κs = search needs
+reads-requires : tie.Need-reads-requires Inv-loop μ-loop
+reads-requires c κs = search needs
 
 add-offset : tie.Need-add-offset Inv-loop μ-loop
 add-offset c = omega arith
@@ -44,7 +44,7 @@ low-spec =
     all-written-requires
     loop-holds
     listed-requires
-    reads-nothing-requires
+    reads-requires
     add-offset
     loop-less
     loop-again

@@ -6,10 +6,10 @@ use Rattle.calls.proofs.readings.all_written.Statement.{statement}
 use Rattle.calls.proofs.readings.all_written.Tie as tie
 
 abbrev Inv-loop : tie.InvT-loop
-Inv-loop rows card₀ i₀ card i = i ≤ 17
+Inv-loop card₀ i₀ card i = i ≤ 17
 
 abbrev μ-loop : tie.MeasureT-loop
-μ-loop rows card₀ i₀ card i = 17 - i
+μ-loop card₀ i₀ card i = 17 - i
 
 reset-requires : tie.Need-reset-requires Inv-loop μ-loop
 reset-requires c κs = search needs
@@ -17,23 +17,11 @@ reset-requires c κs = search needs
 loop-holds : tie.Need-loop-holds Inv-loop μ-loop
 loop-holds c = omega arith
 
-mul-sent : tie.Need-mul-sent Inv-loop μ-loop
-mul-sent c = omega arith
+cell-requires : tie.Need-cell-requires Inv-loop μ-loop
+cell-requires c κs = search needs
 
-index-1-sent : tie.Need-index-1-sent Inv-loop μ-loop
-index-1-sent c = omega arith
-
-index-2-sent : tie.Need-index-2-sent Inv-loop μ-loop
-index-2-sent c = omega arith
-
-mul-sent-2 : tie.Need-mul-sent-2 Inv-loop μ-loop
-mul-sent-2 c = omega arith
-
-index-1-sent-2 : tie.Need-index-1-sent-2 Inv-loop μ-loop
-index-1-sent-2 c = omega arith
-
-index-2-sent-2 : tie.Need-index-2-sent-2 Inv-loop μ-loop
-index-2-sent-2 c = omega arith
+cell-requires-2 : tie.Need-cell-requires-2 Inv-loop μ-loop
+cell-requires-2 c κs = search needs
 
 sent-requires : tie.Need-sent-requires Inv-loop μ-loop
 sent-requires c κs = search needs
@@ -58,12 +46,8 @@ all-written-spec =
     μ-loop
     reset-requires
     loop-holds
-    mul-sent
-    index-1-sent
-    index-2-sent
-    mul-sent-2
-    index-1-sent-2
-    index-2-sent-2
+    cell-requires
+    cell-requires-2
     sent-requires
     add-i
     loop-less

@@ -6,34 +6,19 @@ use Rattle.calls.proofs.readings.column.Statement.{statement}
 use Rattle.calls.proofs.readings.column.Tie as tie
 
 abbrev Inv-loop : tie.InvT-loop
-Inv-loop card k rows t₀ i₀ t i = i ≤ 17
+Inv-loop card k t₀ i₀ t i = i ≤ 17
 
 abbrev μ-loop : tie.MeasureT-loop
-μ-loop card k rows t₀ i₀ t i = 17 - i
+μ-loop card k t₀ i₀ t i = 17 - i
 
 loop-holds : tie.Need-loop-holds Inv-loop μ-loop
 loop-holds c = omega arith
 
-mul-reads : tie.Need-mul-reads Inv-loop μ-loop
-mul-reads c = omega arith
+cell-requires : tie.Need-cell-requires Inv-loop μ-loop
+cell-requires c κs = search needs
 
-index-1-reads : tie.Need-index-1-reads Inv-loop μ-loop
-index-1-reads c = omega arith
-
-index-2-reads : tie.Need-index-2-reads Inv-loop μ-loop
-index-2-reads c = omega arith
-
-mul-reads-2 : tie.Need-mul-reads-2 Inv-loop μ-loop
-mul-reads-2 c = omega arith
-
-mul-reads-3 : tie.Need-mul-reads-3 Inv-loop μ-loop
-mul-reads-3 c = omega arith
-
-index-1-reads-2 : tie.Need-index-1-reads-2 Inv-loop μ-loop
-index-1-reads-2 c = omega arith
-
-index-2-reads-2 : tie.Need-index-2-reads-2 Inv-loop μ-loop
-index-2-reads-2 c = omega arith
+cell-requires-2 : tie.Need-cell-requires-2 Inv-loop μ-loop
+cell-requires-2 c κs = search needs
 
 reads-requires : tie.Need-reads-requires Inv-loop μ-loop
 reads-requires c κs = search needs
@@ -57,13 +42,8 @@ column-spec =
     Inv-loop
     μ-loop
     loop-holds
-    mul-reads
-    index-1-reads
-    index-2-reads
-    mul-reads-2
-    mul-reads-3
-    index-1-reads-2
-    index-2-reads-2
+    cell-requires
+    cell-requires-2
     reads-requires
     add-i
     loop-less
