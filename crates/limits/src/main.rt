@@ -15,15 +15,6 @@ fn register(card: Card, offset: u32, data: u32) -> Card {
     a.card
 }
 
-fn line(what: &[u8], number: u32, count: u32) {
-    io::write_all(STDOUT_FILENO, what);
-    io::write_all(STDOUT_FILENO, b": number ");
-    io::print_decimal(STDOUT_FILENO, number as u64);
-    io::write_all(STDOUT_FILENO, b", count ");
-    io::print_decimal(STDOUT_FILENO, count as u64);
-    io::write_all(STDOUT_FILENO, b"\n");
-}
-
 // What a frame write answers: number and count on a line of their own.
 fn says(what: &[u8], card: Card, address: u32, data: u32, vram: &mut [u8]) {
     let w = Write {
@@ -33,7 +24,12 @@ fn says(what: &[u8], card: Card, address: u32, data: u32, vram: &mut [u8]) {
         data,
     };
     let a = engine::write(card, w, vram);
-    line(what, a.number, a.tally.enabled);
+    io::write_all(STDOUT_FILENO, what);
+    io::write_all(STDOUT_FILENO, b": number ");
+    io::print_decimal(STDOUT_FILENO, a.number as u64);
+    io::write_all(STDOUT_FILENO, b", count ");
+    io::print_decimal(STDOUT_FILENO, a.tally.enabled as u64);
+    io::write_all(STDOUT_FILENO, b"\n");
 }
 
 fn longest(vram: &mut [u8; 2097152]) {
@@ -70,21 +66,18 @@ fn too_long(vram: &mut [u8; 2097216]) {
     );
 }
 
-// An opaque fill of `data` + 1 pixels.
-fn fill(what: &[u8], address: u32, data: u32, vram: &mut [u8]) {
+fn fills() {
     let card = register(Card::reset(0), 0x0030, 0x21);
-    says(what, card, address, data, vram);
-}
-
-fn fills(vram: &mut [u8]) {
-    fill(b"2048 pixels at 0 of 2048", 0, 2047, vram);
-    fill(b"2048 pixels at 4 of 2048", 4, 2047, vram);
-    fill(b"2044 pixels at 4 of 2048", 4, 2043, vram);
-    fill(
+    let mut vram = [0u8; 2048];
+    says(b"2048 pixels at 0 of 2048", card, 0, 2047, &mut vram);
+    says(b"2048 pixels at 4 of 2048", card, 4, 2047, &mut vram);
+    says(b"2044 pixels at 4 of 2048", card, 4, 2043, &mut vram);
+    says(
         b"2048 pixels at the top of the address space",
+        card,
         4294967292,
         2047,
-        vram,
+        &mut vram,
     );
 }
 
@@ -98,13 +91,8 @@ fn lent_too_long() {
     too_long(&mut vram);
 }
 
-fn lent_fills() {
-    let mut vram = [0u8; 2048];
-    fills(&mut vram);
-}
-
 fn main() {
     lent_longest();
     lent_too_long();
-    lent_fills();
+    fills();
 }

@@ -4,6 +4,7 @@ use libc::STDERR_FILENO;
 use libc::STDOUT_FILENO;
 use player::Number;
 use player::Played;
+use rules::refusal::LARGEST_VRAM;
 
 fn complain(what: &[u8]) {
     io::write_all(STDERR_FILENO, b"replay: ");
@@ -90,12 +91,12 @@ fn run(file: i32, width: usize, held: u8, vram: &mut [u8]) {
     save(vram, p.length, width);
 }
 
-fn run_lent(file: i32, width: usize, held: u8, vram: &mut [u8; 2097152]) {
+fn run_lent(file: i32, width: usize, held: u8, vram: &mut [u8; LARGEST_VRAM]) {
     run(file, width, held, vram);
 }
 
 fn run_zeroed(file: i32, width: usize, held: u8) {
-    let mut vram = [0u8; 2097152];
+    let mut vram = [0u8; LARGEST_VRAM];
     run_lent(file, width, held, &mut vram);
 }
 
