@@ -4,10 +4,15 @@ ghost use mathlib.Core.Path.{_≡_};
 ghost use Rattle.access.specs.Access.{holds, reading, stores};
 use card::CLEAR;
 use card::Card;
-use card::Reading;
 use card::Register;
 use card::SET;
 use card::table;
+
+// What a register read answers.
+pub struct Reading {
+    pub number: u32,
+    pub value: u32,
+}
 
 // What a register holds; 0 where there is nothing to read.
 fn value(card: Card, register: Register) -> u32

@@ -64,9 +64,7 @@ pub const SET: u32 = 1;
 
 pub const CLEAR: u32 = 0;
 
-// The spaces of a write.
-pub const FRAME: u8 = 0;
-
+// The space of the registers; that of the frame is 0.
 pub const REGISTERS: u8 = 1;
 
 // One write, as the bus delivers it, to the frame or to the registers. Lanes, the scope paper's word, are the byte enables of the bus.
@@ -75,12 +73,6 @@ pub struct Write {
     pub lanes: u8,
     pub address: u32,
     pub data: u32,
-}
-
-// What a register read answers.
-pub struct Reading {
-    pub number: u32,
-    pub value: u32,
 }
 
 // All 32 bits.

@@ -2,7 +2,6 @@
 use mathlib.Core.Path.{_≡_, refl}
 use mathlib.Core.List.{List, [], _∷_}
 use mathlib.Core.Logic.{inl, inr}
-use Prim.Native.Nat.{ℕ}
 use lib.ListN.{replicate}
 use Rattle.raster.specs.Pixel.{bit, number, result, made}
 use Rattle.span.specs.Fragments.{byte, from, before, drawn, counted, listed}

@@ -1,7 +1,7 @@
 -- Demand 3: drawing one write with a list of operations is drawing it once with their composite, for every card, picture and write,
 -- refused ones and register writes included; and the four operations that restore every picture. `restores` assumes a picture of bytes (`Bytes`).
 use mathlib.Core.Path.{_≡_, refl, ap, ap₂, sym, _∙_}
-use mathlib.Core.Bool.{Bool, true, false, cond, not, _&&_}
+use mathlib.Core.Bool.{Bool, true, false, cond, not}
 use mathlib.Core.List.{List, [], _∷_, map}
 use Prim.Native.Nat.{ℕ, _+_, _*_, _/_, _%_, _<_, _≤_}
 use native.Mathlib.Decide.{decLt}
@@ -21,7 +21,7 @@ use Rattle.card.specs.declared.Card.{Card}
 use Rattle.card.specs.declared.Write.{Write}
 use Rattle.card.specs.declared.Register.the-variants.{CopySource, CopyDestination}
 use Rattle.span.specs.Spans.{Span, spanned}
-use Rattle.rules.specs.Modes.{modeOf, isBlock, effective, registerOf, frameSpan, spansOf}
+use Rattle.rules.specs.Modes.{modeOf, effective, registerOf, frameSpan, spansOf}
 use Rattle.rules.specs.Refusal.{badLanes, badMode, badRaster, offBoundary, outside, unloaded, refusal}
 use Rattle.rules.specs.Writes.{accepted, count, layers, inBlockMode, operation, picture}
 use Rattle.rules.specs.Sequences.{withOperation, drawnWith, drawnWithEach, EachDraw, obeys}

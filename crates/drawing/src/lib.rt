@@ -42,7 +42,7 @@ pub fn draw(p: Plan, card: Card, vram: &mut [u8]) -> Tally
     }
 }
 
-// One of which no pixel is enabled is not gone through.
+// A plan that can be drawn. Where it enables no pixel, its span is not gone through.
 fn planned(p: Plan, card: Card, vram: &mut [u8]) -> Tally
     requires { ⌜ (p .first + p .width ≤ length (now vram)) × (isWhole (p .paint) ≡ true → p .width ≡ 64) ⌝ }
     ensures { λ r. ⌜ CarriedOut p card (now (vram .entry)) r (now (vram .exit)) ⌝ }

@@ -64,26 +64,28 @@ fn after_load(copier: Copier, w: Write, vram: &[u8]) -> Copier
 pub fn left(effect: Effect, card: Card, w: Write, vram: &[u8]) -> Card
     ensures { λ r. ⌜ r ≡ leftBy effect card w (now (vram .entry)) ⌝ }
 {
-    let copier = card.copier;
-    let mut next = card;
     match effect {
         Effect::UsesMask => used(card),
         Effect::ReadsSource => {
-            let read = after_source(copier, w, vram);
-            next.copier = read;
+            let copier = after_source(card.copier, w, vram);
+            let mut next = card;
+            next.copier = copier;
             used(next)
         }
         Effect::DrawsDestination => {
+            let mut next = card;
             next.copier.writing = CLEAR;
             used(next)
         }
         Effect::Stores { register, value } => access::store(card, register, value),
         Effect::Loads => {
-            let read = after_load(copier, w, vram);
-            next.copier = read;
+            let copier = after_load(card.copier, w, vram);
+            let mut next = card;
+            next.copier = copier;
             next
         }
         Effect::Unloads => {
+            let mut next = card;
             next.copier.loaded = CLEAR;
             next
         }

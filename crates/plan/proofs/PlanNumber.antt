@@ -1,7 +1,7 @@
 -- The number of a write's plan is the number of the write. Assumes nothing.
 use mathlib.Core.Path.{_≡_, refl, ap, ap₂, _∙_}
 use mathlib.Core.Bool.{Bool, true, false}
-use mathlib.Core.List.{List, [], _∷_}
+use mathlib.Core.List.{List}
 use Prim.Native.Nat.{ℕ, _+_, _≤_}
 use native.Mathlib.Decide.{ℕ-discrete}
 use lib.ListN.{length}
@@ -12,7 +12,7 @@ use Rattle.card.specs.declared.Write.{Write}
 use Rattle.card.specs.declared.Register.the-variants.{CopySource, CopyDestination}
 use Rattle.rules.specs.Modes.{modeOf, registerOf}
 use Rattle.plan.specs.Plan.{frameFaults, registerFaults, planOf, judged, judgedBy}
-use Rattle.rules.specs.Refusal.{badLength, badSpace, badLanes, noRegister, badMode, badRaster, offBoundary, past, outside, unloaded, firstHolding, refusal}
+use Rattle.rules.specs.Refusal.{badLanes, noRegister, badMode, badRaster, offBoundary, past, outside, unloaded, refusal}
 use Rattle.plan.specs.declared.Faults.{Faults}
 use Rattle.plan.specs.declared.Plan.{Plan}
 use Rattle.rules.proofs.Outcome.{accepted-passed}

@@ -22,11 +22,10 @@ use Rattle.card.specs.declared.Card.{Card}
 use Rattle.card.specs.declared.Write.{Write}
 use Rattle.card.specs.declared.Register.the-variants.{CopySource, CopyDestination}
 use Rattle.rules.specs.Modes.{modeOf, foreground, background, effective, registerOf, registerSpans, frameSpan, spansOf}
-use Rattle.plan.specs.Plan.{framePlan, registerFaults, copyingPlan, storingPlan, registerPlanBy, registerPlan, planOf, planned, isWhole}
+use Rattle.plan.specs.Plan.{framePlan, registerPlanBy, registerPlan, planOf, planned, isWhole}
 use Rattle.rules.specs.Refusal.{past}
 use Rattle.rules.specs.declared.Mode.{Mode}
 use Rattle.rules.specs.declared.Mode.the-variants.{Simple, OpaqueStipple, TransparentStipple, OpaqueFill, TransparentFill, BlockStipple, BlockFill, Copy, Unlisted}
-use Rattle.plan.specs.declared.Effect.the-variants.{Loads, Unloads}
 use Rattle.plan.specs.declared.Plan.{Plan}
 use Rattle.rules.proofs.Tests.{or-false}
 use Rattle.plan.proofs.WordBits.{first-turn, bit-word, bit-both}

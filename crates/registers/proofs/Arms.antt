@@ -1,6 +1,6 @@
 -- An arm of a register write's plan, from the row that was found to the definition. Assumes nothing.
 use mathlib.Core.Path.{_≡_, refl, ap, ap₂, sym, _∙_}
-use mathlib.Core.Bool.{Bool, true, false, cond}
+use mathlib.Core.Bool.{Bool, true, false}
 use Prim.Native.Nat.{ℕ, _%_}
 use lib.Bits.{bitAnd}
 use Rattle.card.specs.Registers.{rowAt, _is_}

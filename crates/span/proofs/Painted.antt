@@ -7,7 +7,7 @@ use native.Mathlib.Omega.{arith}
 use borrow.Author.Tests.{lt-ltb, le-ltb}
 use Rattle.raster.specs.Pixel.{bit, result, made, composite}
 use Rattle.raster.proofs.Bits.{number-same}
-use Rattle.raster.proofs.Made.{made-below, made-plane, made-then, made-five}
+use Rattle.raster.proofs.Made.{made-plane, made-then, made-five}
 use Rattle.span.specs.Fragments.{Fragment, stays, paint, painted, before, from}
 
 pub before-below : (n : ℕ) (f : ℕ → Fragment) {p : ℕ} → p < n → before n f p ≡ f p
