@@ -1,6 +1,6 @@
 // What becomes of the card: the effect of an accepted write, carried out.
 ghost use mathlib.Core.Path.{_≡_};
-ghost use Rattle.plan.specs.Plan.{left as leftBy, used as usedBy, reads, loads};
+ghost use Rattle.plan.specs.Plan.{left as leftBy};
 ghost use Rattle.rules.specs.Writes.{usedUp};
 use card::CLEAR;
 use card::Card;
@@ -23,69 +23,52 @@ fn used_up(mask: Mask) -> u32
     ONES
 }
 
-// The card after a frame write.
-fn used(card: Card) -> Card
-    ensures { λ r. ⌜ r ≡ usedBy card (card .copier) ⌝ }
-{
-    let bits = used_up(card.mask);
-    let mut next = card;
-    next.mask.bits = bits;
-    next.mask.marked = CLEAR;
-    next
-}
-
-// The copier after copy mode has read its source.
-fn after_source(copier: Copier, w: Write, vram: &[u8]) -> Copier
-    ensures { λ r. ⌜ r ≡ reads copier w (now (vram .entry)) ⌝ }
-{
-    let buffer = copier.buffer;
-    let buffer = copy::source(vram, w.address, w.data, buffer);
-    Copier {
-        buffer,
-        loaded: CLEAR,
-        writing: SET,
-    }
-}
-
-// And after the 64-byte copy has.
-fn after_load(copier: Copier, w: Write, vram: &[u8]) -> Copier
-    ensures { λ r. ⌜ r ≡ loads copier w (now (vram .entry)) ⌝ }
-{
-    let buffer = copier.buffer;
-    let buffer = copy::load(vram, w.data, buffer);
-    Copier {
-        buffer,
-        loaded: SET,
-        writing: copier.writing,
-    }
-}
-
 // The card that an effect leaves.
 pub fn left(effect: Effect, card: Card, w: Write, vram: &[u8]) -> Card
     ensures { λ r. ⌜ r ≡ leftBy effect card w (now (vram .entry)) ⌝ }
 {
+    let mut next = card;
     match effect {
-        Effect::UsesMask => used(card),
+        Effect::UsesMask => {
+            let bits = used_up(card.mask);
+            next.mask.bits = bits;
+            next.mask.marked = CLEAR;
+            next
+        }
         Effect::ReadsSource => {
-            let copier = after_source(card.copier, w, vram);
-            let mut next = card;
+            let buffer = card.copier.buffer;
+            let read = copy::source(vram, w.address, w.data, buffer);
+            let copier = Copier {
+                buffer: read,
+                loaded: CLEAR,
+                writing: SET,
+            };
+            let bits = used_up(card.mask);
+            next.mask.bits = bits;
+            next.mask.marked = CLEAR;
             next.copier = copier;
-            used(next)
+            next
         }
         Effect::DrawsDestination => {
-            let mut next = card;
+            let bits = used_up(card.mask);
+            next.mask.bits = bits;
+            next.mask.marked = CLEAR;
             next.copier.writing = CLEAR;
-            used(next)
+            next
         }
         Effect::Stores { register, value } => access::store(card, register, value),
         Effect::Loads => {
-            let copier = after_load(card.copier, w, vram);
-            let mut next = card;
+            let buffer = card.copier.buffer;
+            let read = copy::load(vram, w.data, buffer);
+            let copier = Copier {
+                buffer: read,
+                loaded: SET,
+                writing: card.copier.writing,
+            };
             next.copier = copier;
             next
         }
         Effect::Unloads => {
-            let mut next = card;
             next.copier.loaded = CLEAR;
             next
         }

@@ -195,7 +195,7 @@ drawable p n = not (ltb n (p .first + p .width)) && (not (isWhole (p .paint)) ||
 abbrev withCopier : Card → Copier → Card
 withCopier c k = record { registers = c .registers; mask = c .mask; copier = k; held = c .held }
 
-abbrev pub used : Card → Copier → Card
+abbrev used : Card → Copier → Card
 used c k = record { registers = c .registers; mask = usedUp (c .mask); copier = k; held = c .held }
 
 -- the copier that has read pixels; its buffer stays where they do not all lie inside VRAM

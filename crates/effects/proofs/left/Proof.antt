@@ -1,5 +1,6 @@
--- `effects::left` meets its contract. Assumes nothing.
-use Rattle.plan.specs.Plan.{left}
+-- `effects::left` meets its contract: each arm is the definition at that effect. Assumes nothing.
+use Rattle.plan.specs.Plan.{reads, loads, left}
+use Rattle.rules.specs.Writes.{sourced}
 use borrow.Author.Needs.{needs}
 use Rattle.effects.proofs.left.Statement.{statement}
 use Rattle.effects.proofs.left.Tie as tie
@@ -7,23 +8,23 @@ use Rattle.effects.proofs.left.Tie as tie
 enum-told : tie.Need-enum-told
 enum-told c = search needs
 
-used-requires : tie.Need-used-requires
-used-requires c κs = search needs
+used-up-requires : tie.Need-used-up-requires
+used-up-requires c κs = search needs
 
 enum-told-2 : tie.Need-enum-told-2
 enum-told-2 c = search needs
 
-after-source-requires : tie.Need-after-source-requires
-after-source-requires c κs = search needs
+source-requires : tie.Need-source-requires
+source-requires c κs = search needs
 
-used-requires-2 : tie.Need-used-requires-2
-used-requires-2 c κs = search needs
+used-up-requires-2 : tie.Need-used-up-requires-2
+used-up-requires-2 c κs = search needs
 
 enum-told-3 : tie.Need-enum-told-3
 enum-told-3 c = search needs
 
-used-requires-3 : tie.Need-used-requires-3
-used-requires-3 c κs = search needs
+used-up-requires-3 : tie.Need-used-up-requires-3
+used-up-requires-3 c κs = search needs
 
 enum-known-effect : tie.Need-enum-known-effect
 enum-known-effect c = search needs
@@ -34,31 +35,31 @@ store-requires c κs = search needs
 enum-told-4 : tie.Need-enum-told-4
 enum-told-4 c = search needs
 
-after-load-requires : tie.Need-after-load-requires
-after-load-requires c κs = search needs
+load-requires : tie.Need-load-requires
+load-requires c κs = search needs
 
 enum-told-5 : tie.Need-enum-told-5
 enum-told-5 c = search needs
 
 returns : tie.Need-returns
 unfolding left
-returns c = rw (c .before .enum-told .given .1) (c .used .ensures)
+returns c = rw (c .before .before .before .enum-told .given .1, c .before .before .used-up .ensures)
 
 returns-2 : tie.Need-returns-2
-unfolding left
-returns-2 c = rw (c .before .before .enum-told2 .given .1, ← (c .before .after-source .ensures)) (c .used2 .ensures)
+unfolding left reads sourced
+returns-2 c = rw (c .before .before .before .before .before .enum-told2 .given .1, c .before .before .used-up2 .ensures, c .before .before .before .source .ensures)
 
 returns-3 : tie.Need-returns-3
 unfolding left
-returns-3 c = rw (c .before .before .enum-told3 .given .1) (c .used3 .ensures)
+returns-3 c = rw (c .before .before .before .before .enum-told3 .given .1, c .before .before .before .used-up3 .ensures)
 
 returns-4 : tie.Need-returns-4
 unfolding left
 returns-4 c = rw (c .before .before .effect .given .1) (c .store .ensures)
 
 returns-5 : tie.Need-returns-5
-unfolding left
-returns-5 c = rw (c .before .enum-told4 .given .1, c .after-load .ensures)
+unfolding left loads
+returns-5 c = rw (c .before .before .enum-told4 .given .1, c .load .ensures)
 
 returns-6 : tie.Need-returns-6
 unfolding left
@@ -69,16 +70,16 @@ left-spec =
     tie.close
     (tie.spec
     enum-told
-    used-requires
+    used-up-requires
     enum-told-2
-    after-source-requires
-    used-requires-2
+    source-requires
+    used-up-requires-2
     enum-told-3
-    used-requires-3
+    used-up-requires-3
     enum-known-effect
     store-requires
     enum-told-4
-    after-load-requires
+    load-requires
     enum-told-5
     returns
     returns-2
