@@ -30,7 +30,7 @@ fn composes(right: u32, a: u8, b: u8, composite: u8) -> u32 {
     with(right, raster::compose(a, b) == composite)
 }
 
-pub fn s9() -> u32 {
+pub(crate) fn s9() -> u32 {
     let t = composes(0, 6, 6, 5);
     let t = composes(t, 3, 6, 0);
     let t = composes(t, 1, 7, 3);
@@ -38,7 +38,7 @@ pub fn s9() -> u32 {
 }
 
 // All sixteen rows of sixteen.
-pub fn by_the_rule() -> u32 {
+pub(crate) fn by_the_rule() -> u32 {
     let mut t: u32 = 0;
     let mut i: u32 = 0;
     while i < 256 {
@@ -51,7 +51,7 @@ pub fn by_the_rule() -> u32 {
 }
 
 // No operation is neutral on either side.
-pub fn with_five() -> u32 {
+pub(crate) fn with_five() -> u32 {
     let mut t: u32 = 0;
     let mut a: u8 = 0;
     while a < 16 {
@@ -63,7 +63,7 @@ pub fn with_five() -> u32 {
 }
 
 // Every a, b and c: composing is associative.
-pub fn of_three() -> u32 {
+pub(crate) fn of_three() -> u32 {
     let mut t: u32 = 0;
     let mut i: u32 = 0;
     while i < 4096 {

@@ -14,7 +14,7 @@ fn listed(offset: u32) -> bool {
 }
 
 // Every other offset below 1000h, 0160h and 0164h among them.
-pub fn low() -> u32 {
+pub(crate) fn low() -> u32 {
     let card = all_written();
     let mut t: u32 = 0;
     let mut offset: u32 = 0;
@@ -28,7 +28,7 @@ pub fn low() -> u32 {
 }
 
 // Listed offsets with higher bits set, some of them aliases on the chip; and all ones.
-pub fn high() -> u32 {
+pub(crate) fn high() -> u32 {
     let card = all_written();
     let t = reads(0, card, 0x0000_1020, 4, 0);
     let t = reads(t, card, 0x0001_0028, 4, 0);
@@ -39,7 +39,7 @@ pub fn high() -> u32 {
 }
 
 // At reset, with a source loaded, and with that copied.
-pub fn write_only() -> u32 {
+pub(crate) fn write_only() -> u32 {
     let card = Card::reset(0);
     let t = reads(reads(0, card, 0x0160, 4, 0), card, 0x0164, 4, 0);
     let card = sent(card, 1, 0x0160, 0);

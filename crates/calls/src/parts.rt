@@ -36,7 +36,7 @@ fn gives(right: u32, a: u32, n: u32) -> u32 {
 }
 
 // The whole, its ends, the middle, and no pixels, also at the end.
-pub fn accepted() -> u32 {
+pub(crate) fn accepted() -> u32 {
     let t = gives(0, 0, 256);
     let t = gives(t, 0, 1);
     let t = gives(t, 255, 1);
@@ -65,7 +65,7 @@ fn refuses(right: u32, size: usize, a: u32, n: u32, number: u32) -> u32 {
     }
 }
 
-pub fn past_the_end() -> u32 {
+pub(crate) fn past_the_end() -> u32 {
     let t = refuses(0, 256, 0, 257, 8);
     let t = refuses(t, 256, 1, 256, 8);
     let t = refuses(t, 256, 255, 2, 8);
@@ -74,7 +74,7 @@ pub fn past_the_end() -> u32 {
 }
 
 // a + n as whole numbers: at 32 bits these sums would be 0 to 256, and inside.
-pub fn near_the_top() -> u32 {
+pub(crate) fn near_the_top() -> u32 {
     let t = refuses(0, 256, 0xFFFF_FFFF, 1, 8);
     let t = refuses(t, 256, 0xFFFF_FFFF, 2, 8);
     let t = refuses(t, 256, 1, 0xFFFF_FFFF, 8);
@@ -83,7 +83,7 @@ pub fn near_the_top() -> u32 {
 }
 
 // 1 comes before 8. The longest VRAM is taken, and one step more is not.
-pub fn bad_length() -> u32 {
+pub(crate) fn bad_length() -> u32 {
     let t = refuses(0, 0, 0, 0, 1);
     let t = refuses(t, 63, 0, 1, 1);
     let t = refuses(t, 65, 0, 1, 1);

@@ -36,13 +36,13 @@ fn cell(i: usize, k: usize) -> u32
     r[k]
 }
 
-pub fn reads(right: u32, card: Card, offset: u32, number: u32, value: u32) -> u32 {
+pub(crate) fn reads(right: u32, card: Card, offset: u32, number: u32, value: u32) -> u32 {
     let r = access::read(card, offset);
     with(right, r.number == number && r.value == value)
 }
 
 // The card after a write, with 64 zeros for VRAM.
-pub fn sent(card: Card, space: u8, address: u32, data: u32) -> Card {
+pub(crate) fn sent(card: Card, space: u8, address: u32, data: u32) -> Card {
     let w = Write {
         space,
         lanes: 15,
@@ -67,12 +67,12 @@ fn column(card: Card, k: usize) -> u32
     t
 }
 
-pub fn at_reset(held: u8) -> u32 {
+pub(crate) fn at_reset(held: u8) -> u32 {
     column(Card::reset(held), 1)
 }
 
 // Every register written, from the first row to the last.
-pub fn all_written() -> Card {
+pub(crate) fn all_written() -> Card {
     let mut card = Card::reset(0);
     let mut i: usize = 0;
     while i < 17 {
@@ -82,7 +82,7 @@ pub fn all_written() -> Card {
     card
 }
 
-pub fn after_writes() -> u32 {
+pub(crate) fn after_writes() -> u32 {
     column(all_written(), 3)
 }
 
@@ -92,7 +92,7 @@ fn both(right: u32, card: Card, value: u32) -> u32 {
 
 // One value at both offsets. A one-shot mask stays after a refused frame write, here past the end of VRAM, and is used up by an
 // accepted one; a lasting mask stays.
-pub fn pixel_mask() -> u32 {
+pub(crate) fn pixel_mask() -> u32 {
     let once = sent(Card::reset(0), 1, 0x002C, 0x0F0F_0F0F);
     let t = both(0, once, 0x0F0F_0F0F);
     let t = both(t, sent(once, 0, 64, 0), 0x0F0F_0F0F);
@@ -114,7 +114,7 @@ fn kept(right: u32, offset: u32, data: u32, value: u32) -> u32 {
 }
 
 // Raster-operation bits 31:12 and 7:4, and pixel-shift bits 31:4.
-pub fn ignored_bits() -> u32 {
+pub(crate) fn ignored_bits() -> u32 {
     let t = kept(0, 0x0034, 0xFFFF_F00A, 0xA);
     let t = kept(t, 0x0034, 0x0000_00F5, 0x5);
     let t = kept(t, 0x0034, 0x8000_1090, 0x0);
@@ -130,7 +130,7 @@ fn handed(right: u32, raster: u32, value: u32) -> u32 {
     reads(right, card, 0x0034, 0, value)
 }
 
-pub fn handed_in() -> u32 {
+pub(crate) fn handed_in() -> u32 {
     let t = handed(0, 0xFFFF_F0F6, 0x6);
     let t = handed(t, 0x0000_0F00, 0x0);
     handed(t, 0x0000_000F, 0xF)

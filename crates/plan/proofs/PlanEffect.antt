@@ -17,16 +17,26 @@ use Rattle.card.specs.declared.Card.{Card}
 use Rattle.card.specs.declared.Write.{Write}
 use Rattle.card.specs.declared.Register.the-variants.{CopySource, CopyDestination}
 use Rattle.rules.specs.Modes.{modeOf, isBlock, isCopy, effective, registerOf, frameSpan}
-use Rattle.plan.specs.Plan.{frameEffect, framePlan, planOf, isWhole, planned, drawable, reads, loads, left, Within}
+use Rattle.plan.specs.Plan.{frameEffect, framePlan, planOf, isWhole, planned, drawable, reads, loads, left}
 use Rattle.rules.specs.Refusal.{refusal}
 use Rattle.rules.specs.Writes.{count, operation, picture, usedUp, alternated, afterFrame, afterRegister, next}
 use Rattle.rules.specs.declared.Mode.{Mode}
 use Rattle.rules.specs.declared.Mode.the-variants.{Simple, OpaqueStipple, TransparentStipple, OpaqueFill, TransparentFill, BlockStipple, BlockFill, Copy, Unlisted}
-use Rattle.plan.specs.declared.Effect.the-variants.{UsesMask, ReadsSource, DrawsDestination}
+use Rattle.plan.specs.declared.Effect.{Effect}
+use Rattle.plan.specs.declared.Effect.the-variants.{UsesMask, ReadsSource, DrawsDestination, Stores, Loads, Unloads}
 use Rattle.plan.specs.declared.Plan.{Plan}
 use Rattle.rules.proofs.Outcome.{accepted-raster, accepted-space, picture-accepted, count-accepted, next-register, next-frame}
 use Rattle.plan.proofs.Plans.{plan, planned-draws, frame-plan, register-plan, planned-whole}
 use Rattle.plan.proofs.PlanNumber.{planned-inside}
+
+-- what the effect reads of a VRAM of n bytes lies inside it
+abbrev Within : Effect → Write → ℕ → Type 0
+Within UsesMask w n = Unit
+Within ReadsSource w n = w .address + 32 ≤ n
+Within DrawsDestination w n = Unit
+Within (Stores g x) w n = Unit
+Within Loads w n = w .«data» + 64 ≤ n
+Within Unloads w n = Unit
 
 module _ (c : Card) (w : Write) where
   module _ (v : List ℕ) (ok : refusal c w (length v) ≡ 0) where

@@ -2,7 +2,7 @@
 -- `rules` say.
 use mathlib.Core.Bool.{Bool, true, false, cond, not, _&&_, _||_}
 use mathlib.Core.List.{List, [], _∷_}
-use Prim.Native.Nat.{ℕ, _+_, _-_, _/_, _%_, _^_, _≤_}
+use Prim.Native.Nat.{ℕ, _+_, _-_, _/_, _%_, _^_}
 use lib.Bits.{bitAnd}
 use lib.Dec.{eqb, leb, ltb}
 use lib.ListN.{length, getD, take, drop}
@@ -218,12 +218,3 @@ left DrawsDestination c w v = used c (record { buffer = c .copier .buffer; loade
 left (Stores g x) c w v = stores c g x
 left Loads c w v = withCopier c (loads (c .copier) w v)
 left Unloads c w v = withCopier c (record { buffer = c .copier .buffer; loaded = 0; writing = c .copier .writing })
-
--- what the effect reads of a VRAM of n bytes lies inside it
-abbrev pub Within : Effect → Write → ℕ → Type 0
-Within UsesMask w n = Unit
-Within ReadsSource w n = w .address + 32 ≤ n
-Within DrawsDestination w n = Unit
-Within (Stores g x) w n = Unit
-Within Loads w n = w .«data» + 64 ≤ n
-Within Unloads w n = Unit
