@@ -55,7 +55,7 @@ fn planned(p: Plan, card: Card, vram: &mut [u8]) -> Tally
         Paint::Whole => halves(p, card, vram),
         _ => {
             let s = brush::strokes(p, card);
-            span::draw_at(vram, p.first, s)
+            strokes::draw_at(vram, p.first, s)
         }
     }
 }
@@ -68,8 +68,8 @@ fn halves(p: Plan, card: Card, vram: &mut [u8]) -> Tally
     let first = p.first;
     let low = brush::half_strokes(p, card, 0);
     let high = brush::half_strokes(p, card, 32);
-    let lower = span::draw_at(vram, first, low);
-    let upper = span::draw_at(vram, first + 32, high);
+    let lower = strokes::draw_at(vram, first, low);
+    let upper = strokes::draw_at(vram, first + 32, high);
     Tally {
         enabled: lower.enabled + upper.enabled,
     }

@@ -1,10 +1,7 @@
--- The laws of fragments, over any fragments at all; of layers and spans; then those of the strokes and of their tables.
+-- The laws of fragments, over any fragments at all; then of layers and spans.
 pub mod Painted
 pub mod Drawn
 pub mod Layers
 pub mod Counted
 pub mod Listed
 pub mod Spans
-pub mod Pattern
-pub mod Reducing
-pub mod Turn

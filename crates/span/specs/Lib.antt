@@ -3,4 +3,3 @@ pub mod Fragments
 pub mod Layers
 pub mod Spans
 pub mod Strokes
-pub mod Reduced

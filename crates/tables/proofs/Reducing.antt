@@ -10,8 +10,8 @@ use Rattle.raster.proofs.Below.{bit-zeros}
 use Rattle.raster.proofs.Bits.{same-bits}
 use Rattle.raster.proofs.Made.{made-below, made-outside}
 use Rattle.raster.proofs.Reducing.{reduced-made}
 use Rattle.span.specs.Fragments.{Fragment, stays, paint, painted}
-use Rattle.span.specs.Reduced.{keeps, flips}
+use Rattle.tables.specs.Reduced.{keeps, flips}
 
 pub reduced-painted : (op : ℕ) (x : Fragment) (old : ℕ) → old < 256 → bitXor (bitAnd old (keeps op x)) (flips op x) ≡ painted op x old
 reduced-painted op stays old h = xor-zero-r (bitAnd old 255) ∙ (and-mask old 8 ∙ omega arith)

@@ -3,10 +3,10 @@ use mathlib.Core.Path.{_≡_}
 use Prim.Native.Nat.{ℕ}
 use lib.Bits.{bitXor}
 use Rattle.raster.specs.Pixel.{value}
 use Rattle.span.specs.declared.Strokes.{Strokes}
-use Rattle.span.specs.declared.Table.{Table}
+use Rattle.tables.specs.declared.Table.{Table}
 use Rattle.span.specs.Fragments.{Fragment, painted, listed}
 use Rattle.span.specs.Strokes.{stroke, enabled}
 
 -- what becomes of a byte of zeros
 abbrev pub flips : ℕ → Fragment → ℕ

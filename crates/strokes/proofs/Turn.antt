@@ -5,16 +5,16 @@ use Prim.Native.Nat.{ℕ, _+_, _%_, _<_}
 use native.Mathlib.Omega.{arith}
 use lib.Bits.{bitAnd, bitXor}
 use lib.ListN.{length, getD, set}
 use Rattle.span.specs.declared.Strokes.{Strokes}
-use Rattle.span.specs.declared.Table.{Table}
+use Rattle.tables.specs.declared.Table.{Table}
 use Rattle.span.specs.Fragments.{painted, drawn, before, counted}
 use Rattle.span.specs.Strokes.{stroke, enabled}
-use Rattle.span.specs.Reduced.{keeps, flips, Digested}
+use Rattle.tables.specs.Reduced.{keeps, flips, Digested}
 use Rattle.span.proofs.Painted.{before-past}
 use Rattle.span.proofs.Drawn.{drawn-kept, drawn-before-step}
 use Rattle.span.proofs.Counted.{counted-step}
-use Rattle.span.proofs.Pattern.{stroke-table, enabled-table}
-use Rattle.span.proofs.Reducing.{reduced-painted}
+use Rattle.tables.proofs.Pattern.{stroke-table, enabled-table}
+use Rattle.tables.proofs.Reducing.{reduced-painted}
 
 module _ (s : Strokes) (t : Table) (d : Digested s t) (j : ℕ) where
   pub turn-painted : (v v₀ : List ℕ) → j < length v₀ → getD v j 0 < 256 → v ≡ drawn (s .op) (before j (stroke s)) v₀

@@ -1,4 +1,4 @@
--- `span::draw` meets its contract. The loop's invariant: of whatever strokes the table is the table, the part is drawn before j, and the
+-- `strokes::draw` meets its contract. The loop's invariant: of whatever strokes the table is the table, the part is drawn before j, and the
 -- enabled pixels before j are counted. Assumes nothing.
 use mathlib.Core.Path.{_≡_, refl, ap, sym, _∙_}
 use Prim.Native.Nat.{ℕ, _+_, _-_, _≤_, min}
@@ -6,16 +6,16 @@ use native.Mathlib.Omega.{arith}
 use lib.ListN.{length, length-set}
 use denote.Ref.{now}
 use borrow.Author.Needs.{needs}
 use Rattle.span.specs.declared.Strokes.{Strokes}
 use Rattle.span.specs.Fragments.{drawn, before, counted}
 use Rattle.span.specs.Strokes.{stroke, enabled}
-use Rattle.span.specs.Reduced.{Digested}
+use Rattle.tables.specs.Reduced.{Digested}
 use Rattle.span.proofs.Painted.{before-past}
 use Rattle.span.proofs.Drawn.{drawn-none, drawn-before-min}
 use Rattle.span.proofs.Counted.{counted-le}
-use Rattle.span.proofs.Turn.{turn-painted, turn-counted}
-use Rattle.span.proofs.draw.Statement.{statement}
-use Rattle.span.proofs.draw.Tie as tie
+use Rattle.strokes.proofs.Turn.{turn-painted, turn-counted}
+use Rattle.strokes.proofs.draw.Statement.{statement}
+use Rattle.strokes.proofs.draw.Tie as tie
 
 abbrev Inv-loop : tie.InvT-loop
 Inv-loop part₀ t end count₀ j₀ part count j =

@@ -1,17 +1,17 @@
--- `span::draw_at` meets its contract: the part, drawn and put back. Assumes nothing.
+-- `strokes::draw_at` meets its contract: the part, drawn and put back. Assumes nothing.
 use mathlib.Core.Path.{_≡_, ap, sym, _∙_}
 use Prim.Native.Nat.{ℕ, _-_, min}
 use native.Mathlib.Omega.{arith}
 use denote.Ref.{now}
 use lib.ListN.{length}
 use Rattle.span.specs.Fragments.{before, counted}
 use Rattle.span.specs.Strokes.{stroke, enabled}
 use Rattle.span.proofs.Drawn.{drawn-none}
 use Rattle.span.proofs.Painted.{from-below}
 use Rattle.span.proofs.Spans.{put-drawn, part-length}
 use borrow.Author.Needs.{needs}
-use Rattle.span.proofs.draw_at.Statement.{statement}
-use Rattle.span.proofs.draw_at.Tie as tie
+use Rattle.strokes.proofs.draw_at.Statement.{statement}
+use Rattle.strokes.proofs.draw_at.Tie as tie
 
 sub-draw : tie.Need-sub-draw
 sub-draw c = search needs

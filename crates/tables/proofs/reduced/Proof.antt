@@ -1,13 +1,13 @@
--- `span::reduced` meets its contract: the raster operation under the mask, or under no mask, reduced to two bytes. Assumes nothing.
+-- `tables::reduced` meets its contract: the raster operation under the mask, or under no mask, reduced to two bytes. Assumes nothing.
 use mathlib.Core.Path.{ap₂, _∙_}
 use Prim.Native.Nat.{ℕ}
 use native.Mathlib.Omega.{arith}
 use lib.Bits.{bitXor}
 use lib.Dec.{lit<}
 use borrow.Author.Needs.{needs}
-use Rattle.span.proofs.Reducing.{masked-painted, masked-below, flag-value}
-use Rattle.span.proofs.reduced.Statement.{statement}
-use Rattle.span.proofs.reduced.Tie as tie
+use Rattle.tables.proofs.Reducing.{masked-painted, masked-below, flag-value}
+use Rattle.tables.proofs.reduced.Statement.{statement}
+use Rattle.tables.proofs.reduced.Tie as tie
 
 cast-on : tie.Need-cast-on
 cast-on c = search needs

@@ -1,4 +1,4 @@
--- `span::digest` meets its contract. The loop's invariant: the first k entries of each table are those of the strokes. Assumes nothing.
+-- `tables::digest` meets its contract. The loop's invariant: the first k entries of each table are those of the strokes. Assumes nothing.
 use mathlib.Core.Path.{_≡_, refl, ap, _∙_}
 use mathlib.Core.List.{_++_}
 use Prim.Native.Nat.{ℕ, _-_, _≤_}
@@ -6,13 +6,13 @@ use native.Mathlib.Omega.{arith}
 use lib.ListN.{drop}
 use borrow.Author.Needs.{needs}
 use Rattle.raster.specs.Pixel.{bit, value}
 use Rattle.span.specs.Fragments.{Fragment, listed}
 use Rattle.span.specs.Strokes.{stroke, enabled}
-use Rattle.span.specs.Reduced.{keeps, flips}
+use Rattle.tables.specs.Reduced.{keeps, flips}
 use Rattle.span.proofs.Listed.{listed-none, listed-set, listed-all}
-use Rattle.span.proofs.Pattern.{stroke-at}
-use Rattle.span.proofs.digest.Statement.{statement}
-use Rattle.span.proofs.digest.Tie as tie
+use Rattle.tables.proofs.Pattern.{stroke-at}
+use Rattle.tables.proofs.digest.Statement.{statement}
+use Rattle.tables.proofs.digest.Tie as tie
 
 abbrev Inv-loop : tie.InvT-loop
 Inv-loop s phase and₀ xor₀ on₀ k₀ and xor on k =

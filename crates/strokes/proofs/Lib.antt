@@ -1,0 +1,2 @@
+-- One turn of the loop over the pixels.
+pub mod Turn

@@ -1,0 +1,2 @@
+-- What the crate `tables` means.
+pub mod Reduced
