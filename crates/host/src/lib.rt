@@ -119,7 +119,7 @@ pub extern "C" fn zevkholtai_check(bytes: &[u8]) -> Checked
 {
     let mut number: u32 = 0;
     let mut length: u32 = 0;
-    format::check(bytes, &mut number, &mut length);
+    checking::check(bytes, &mut number, &mut length);
     Checked { number, length }
 }
 

@@ -101,7 +101,7 @@ pub fn play(bytes: &[u8], held: u8, vram: &mut [u8]) -> Played
 {
     let mut number: u32 = 0;
     let mut length: u32 = 0;
-    let part = format::check(bytes, &mut number, &mut length);
+    let part = checking::check(bytes, &mut number, &mut length);
     let n = length as usize;
     if number != 0 {
         return Played {

@@ -6,11 +6,11 @@ use crate::Length;
 use crate::storing::put_entry;
 use crate::storing::put_header;
 use card::Write;
+use checking::is_trace;
+use entries::word_at;
 use format::ENTRY;
 use format::HEADER;
 use format::LARGEST;
-use format::is_trace;
-use format::word_at;
 use rules::refusal::bad_length;
 use rules::refusal::bad_space;
 

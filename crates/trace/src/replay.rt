@@ -3,9 +3,9 @@ ghost use mathlib.Core.Path.{_≡_};
 ghost use Rattle.trace.specs.Run.{run as runOf, outcomeOf};
 use crate::Ran;
 use card::Card;
+use checking::well_formed;
+use entries::entry_at;
 use format::ENTRY;
-use format::entry_at;
-use format::well_formed;
 use rules::refusal::bad_length;
 
 // The entries of the part, one after the other, until the budget or the part ends or one is refused.
