@@ -1,11 +1,11 @@
 // Whether bytes are a trace, and a part of them its entries. What that means stands in the crate `format`.
 ghost use mathlib.Core.Path.{_≡_};
 ghost use Rattle.format.specs.Traces.{wellFormed, isTrace, checkNumber, checkLength, checkPart};
+use bounds::bad_length;
 use entries::word_at;
 use format::ENTRY;
 use format::HEADER;
 use format::LARGEST;
-use rules::refusal::bad_length;
 
 // The offset of the entries, as a word of the header.
 const OFFSET: u32 = HEADER as u32;

@@ -5,10 +5,10 @@ ghost use Prim.Native.Nat.{_+_, _≤_};
 ghost use lib.ListN.{length};
 ghost use Rattle.plan.specs.Plan.{isWhole, drawable as drawableIn};
 ghost use Rattle.drawing.specs.Contract.{CarriedOut, Tried};
+use bounds::past_end;
 use card::Card;
 use plan::Paint;
 use plan::Plan;
-use plan::refusal::past_end;
 use span::Tally;
 
 mod brush;

@@ -32,7 +32,7 @@ pub fn write(card: Card, w: Write, vram: &mut [u8]) -> Answer
     ensures { λ r. ⌜ Written card w (now (vram .entry)) r (now (vram .exit)) ⌝ }
 {
     let p = plan_of(card, w);
-    let number = plan::refusal::refuse(p, w, vram.len());
+    let number = refusal::refuse(p, w, vram.len());
     if number != 0 {
         let tally = Tally { enabled: 0 };
         return Answer {

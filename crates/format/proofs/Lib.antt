@@ -1,4 +1,4 @@
--- The laws of the crate `format`: bytes of a trace, and what they say.
+-- The laws of traces as bytes: what they say; then of traces recorded, and read back.
 pub mod Bytes
 pub mod Padding
 pub mod Inside
@@ -8,3 +8,6 @@ pub mod Tested
 pub mod Checking
 pub mod Encoding
 pub mod Decoding
+pub mod RecordingTests
+pub mod Growing
+pub mod RoundTrip

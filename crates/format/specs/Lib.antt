@@ -1,3 +1,4 @@
--- What the crate `format` means: scope paper, "Traces", as bytes.
+-- What the crates of traces as bytes mean: scope paper, "Traces".
 pub mod Bytes
 pub mod Traces
+pub mod Recording

@@ -3,6 +3,7 @@ ghost use mathlib.Core.Path.{_≡_};
 ghost use Rattle.rules.specs.Modes.{modeOf};
 ghost use Rattle.plan.specs.Plan.{framePlan, drawingPlan, copyPlan, halvedPlan};
 ghost use Rattle.plan.specs.declared.Paint.the-variants.{Words};
+use bounds::ALL_LANES;
 use card::CLEAR;
 use card::Card;
 use card::ONES;
@@ -13,7 +14,6 @@ use plan::LAST_OPERATION;
 use plan::Paint;
 use plan::Plan;
 use rules::Mode;
-use rules::refusal::ALL_LANES;
 
 // The operation that takes the source.
 const COPY: u8 = 3;
@@ -23,7 +23,7 @@ pub fn plan(card: Card, w: Write) -> Plan
     ensures { λ r. ⌜ r ≡ framePlan (modeOf (card .registers .mode)) card w ⌝ }
 {
     let registers = card.registers;
-    let m = rules::mode_of(registers.mode);
+    let m = modes::mode_of(registers.mode);
     let ink = registers.foreground;
     let paper = registers.background;
     let fill = registers.fill;

@@ -11,12 +11,12 @@ use borrow.Author.Tests.{eqb-true}
 use Rattle.card.specs.declared.Card.{Card}
 use Rattle.card.specs.declared.Write.{Write}
 use Rattle.format.specs.Traces.{largest, isTrace, checkNumber, checkPart}
-use Rattle.recording.specs.Recording.{startNumber, startLength, appendNumber, appendLength}
+use Rattle.format.specs.Recording.{startNumber, startLength, appendNumber, appendLength}
 use Rattle.trace.specs.Run.{State, outcomeOf, run, unread}
 use Rattle.trace.specs.declared.Ran.{Ran}
 use Rattle.format.proofs.Tested.{formed, traced}
 use Rattle.format.proofs.Checking.{good, bad}
-use Rattle.recording.proofs.RecordingTests.{appendable}
+use Rattle.format.proofs.RecordingTests.{appendable}
 use Rattle.trace.proofs.Demands.{outcome}
 use Rattle.host.specs.Entries.{Replayed}
 

@@ -9,7 +9,7 @@ use Rattle.card.specs.declared.Write.{Write}
 use Rattle.rules.specs.Refusal.{refusal}
 use Rattle.rules.specs.Writes.{count, next, picture}
 use Rattle.format.specs.Traces.{headerSize, entrySize, checkNumber, checkLength, checkPart}
-use Rattle.recording.specs.Recording.{startNumber, startLength, started, appendNumber, appendLength, appended}
+use Rattle.format.specs.Recording.{startNumber, startLength, started, appendNumber, appendLength, appended}
 use Rattle.trace.specs.Run.{run, unread}
 use Rattle.host.specs.declared.Answer.{Answer}
 use Rattle.host.specs.declared.Checked.{Checked}

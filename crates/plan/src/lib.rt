@@ -1,8 +1,6 @@
 // The plan of a write: what is drawn where and what becomes of the card, decided once. Refusal, drawing and the next card use it.
 use card::Register;
 
-pub mod refusal;
-
 // The last of the sixteen raster operations.
 pub const LAST_OPERATION: u32 = 15;
 

@@ -2,7 +2,7 @@
 // What each function means stands in specs/ReadBack.antt.
 ghost use mathlib.Core.Path.{_≡_};
 ghost use Rattle.readback.specs.ReadBack.{backNumber, backPart};
-use rules::refusal::bad_length;
+use bounds::bad_length;
 
 // The number of a read-back of n pixels from address a, out of a VRAM of that length.
 pub fn number(size: usize, a: u32, n: u32) -> u32

@@ -1,5 +1,2 @@
--- The laws of the crate `recording`: traces written as bytes, and read back.
+-- What the stores of the code leave in the buffer.
 pub mod Stores
-pub mod RecordingTests
-pub mod Growing
-pub mod RoundTrip

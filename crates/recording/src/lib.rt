@@ -1,5 +1,5 @@
 // Recorded traces as bytes, written: started and appended to.
-// What each function means stands in specs/, under the headings of the scope paper.
+// What each function means stands in the crate `format`.
 mod storing;
 mod words;
 mod writing;

@@ -1,18 +1,18 @@
 // Starting a trace in a buffer, and appending to it.
 ghost use mathlib.Core.Path.{_≡_};
 ghost use lib.ListN.{length};
-ghost use Rattle.recording.specs.Recording.{startNumber, startLength, started, appendNumber, appendLength, appended};
+ghost use Rattle.format.specs.Recording.{startNumber, startLength, started, appendNumber, appendLength, appended};
 use crate::Length;
 use crate::storing::put_entry;
 use crate::storing::put_header;
+use bounds::bad_length;
+use bounds::bad_space;
 use card::Write;
 use checking::is_trace;
 use entries::word_at;
 use format::ENTRY;
 use format::HEADER;
 use format::LARGEST;
-use rules::refusal::bad_length;
-use rules::refusal::bad_space;
 
 // The number of a start in a buffer of `size` bytes.
 fn start_number(size: usize, vram: u32) -> u32

@@ -3,6 +3,7 @@ ghost use mathlib.Core.Path.{_≡_};
 ghost use mathlib.Core.Bool.{_||_};
 ghost use Rattle.rules.specs.Modes.{registerOf};
 ghost use Rattle.plan.specs.Plan.{registerPlan, storingPlan, copyingPlan};
+use bounds::ALL_LANES;
 use card::CLEAR;
 use card::Card;
 use card::ONES;
@@ -14,7 +15,6 @@ use plan::Faults;
 use plan::LAST_OPERATION;
 use plan::Paint;
 use plan::Plan;
-use rules::refusal::ALL_LANES;
 
 // Of any register write: those that have rules of their own, and all others, which keep any value.
 pub fn plan(card: Card, w: Write) -> Plan
@@ -28,14 +28,14 @@ pub fn plan(card: Card, w: Write) -> Plan
     let mut faults = Faults {
         lanes: w.lanes != ALL_LANES,
         register: false,
-        mode: rules::is_unlisted(rules::mode_of(card.registers.mode)),
+        mode: modes::is_unlisted(modes::mode_of(card.registers.mode)),
         raster: LAST_OPERATION < card.registers.raster,
         address: false,
         source: false,
     };
     match register {
         Register::Mode => {
-            faults.mode = or(faults.mode, rules::is_unlisted(rules::mode_of(data)));
+            faults.mode = or(faults.mode, modes::is_unlisted(modes::mode_of(data)));
             storing(faults, op, register, value)
         }
         Register::RasterOperation => {

@@ -1,10 +1,10 @@
 // replay TRACE [PICTURE [WIDTH [HELD]]]: runs a recorded trace whole from reset on a zeroed VRAM of its header's length, and says how it went.
 // PICTURE is a file for the picture, a binary PGM of WIDTH columns (512 where it is not given); HELD is the held planes, two hexadecimal digits.
+use bounds::LARGEST_VRAM;
 use libc::STDERR_FILENO;
 use libc::STDOUT_FILENO;
 use player::Number;
 use player::Played;
-use rules::refusal::LARGEST_VRAM;
 
 fn complain(what: &[u8]) {
     io::write_all(STDERR_FILENO, b"replay: ");

@@ -9,7 +9,7 @@ use Rattle.card.specs.declared.Card.{Card}
 use Rattle.card.specs.declared.Write.{Write}
 use Rattle.rules.specs.Refusal.{badLength}
 use Rattle.format.specs.Traces.{checkPart}
-use Rattle.recording.proofs.RoundTrip.{Recorded, checked}
+use Rattle.format.proofs.RoundTrip.{Recorded, checked}
 use Rattle.trace.specs.Run.{nothing, ran, run}
 
 -- running the part that `check` hands back is running those writes: 1 where the lent VRAM has a bad length, else one write after the other

@@ -2,11 +2,11 @@
 ghost use mathlib.Core.Path.{_≡_};
 ghost use Rattle.trace.specs.Run.{run as runOf, outcomeOf};
 use crate::Ran;
+use bounds::bad_length;
 use card::Card;
 use checking::well_formed;
 use entries::entry_at;
 use format::ENTRY;
-use rules::refusal::bad_length;
 
 // The entries of the part, one after the other, until the budget or the part ends or one is refused.
 pub fn run(part: &[u8], card: Card, vram: &mut [u8], budget: u32) -> Ran

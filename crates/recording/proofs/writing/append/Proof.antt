@@ -1,8 +1,8 @@
 -- `recording::writing::append` meets its contract. Assumes nothing.
 use mathlib.Core.Path.{sym, _∙_}
 use native.Mathlib.Omega.{arith}
-use Rattle.recording.proofs.RecordingTests.{Appendable, appendable}
-use Rattle.recording.proofs.Growing.{header-within, count-read, count-below, not-appended, now-appended}
+use Rattle.format.proofs.RecordingTests.{Appendable, appendable}
+use Rattle.format.proofs.Growing.{header-within, count-read, count-below, not-appended, now-appended}
 use borrow.Author.Needs.{needs}
 use Rattle.recording.proofs.writing.append.Statement.{statement}
 use Rattle.recording.proofs.writing.append.Tie as tie

@@ -9,7 +9,7 @@ use borrow.Author.Tests.{not-true, not-false}
 use Rattle.rules.proofs.Tests.{said}
 use Rattle.format.proofs.Inside.{word-inside}
 use Rattle.format.specs.Traces.{isTrace}
-use Rattle.recording.proofs.RecordingTests.{too-long, no-trace, bad-write, no-room, full, fits}
+use Rattle.format.proofs.RecordingTests.{too-long, no-trace, bad-write, no-room, full, fits}
 use borrow.Author.Needs.{needs}
 use Rattle.recording.proofs.writing.append_number.Statement.{statement}
 use Rattle.recording.proofs.writing.append_number.Tie as tie

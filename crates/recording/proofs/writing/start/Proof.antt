@@ -1,8 +1,8 @@
 -- `recording::writing::start` meets its contract. Assumes nothing.
 use mathlib.Core.Path.{sym, _∙_}
 use native.Mathlib.Omega.{arith}
-use Rattle.recording.proofs.RecordingTests.{room-to-start}
-use Rattle.recording.proofs.Growing.{not-started, now-started}
+use Rattle.format.proofs.RecordingTests.{room-to-start}
+use Rattle.format.proofs.Growing.{not-started, now-started}
 use borrow.Author.Needs.{needs}
 use Rattle.recording.proofs.writing.start.Statement.{statement}
 use Rattle.recording.proofs.writing.start.Tie as tie

@@ -1,7 +1,7 @@
 -- `recording::writing::start_number` meets its contract. Assumes nothing.
 use Rattle.rules.proofs.Tests.{said}
 use borrow.Author.Tests.{lt-ltb, le-ltb}
-use Rattle.recording.specs.Recording.{startNumber}
+use Rattle.format.specs.Recording.{startNumber}
 use borrow.Author.Needs.{needs}
 use Rattle.recording.proofs.writing.start_number.Statement.{statement}
 use Rattle.recording.proofs.writing.start_number.Tie as tie

@@ -1,2 +1,0 @@
--- What the crate `recording` means: scope paper, "Traces", starting and appending.
-pub mod Recording
