@@ -27,7 +27,7 @@ fn composed(a: u8, b: u8) -> u8 {
 }
 
 fn composes(right: u32, a: u8, b: u8, composite: u8) -> u32 {
-    with(right, raster::compose(a, b) == composite)
+    with(right, composing::compose(a, b) == composite)
 }
 
 pub(crate) fn s9() -> u32 {
@@ -70,8 +70,8 @@ pub(crate) fn of_three() -> u32 {
         let a = (i / 256) as u8;
         let b = (i / 16 % 16) as u8;
         let c = (i % 16) as u8;
-        let left = raster::compose(raster::compose(a, b), c);
-        t = composes(t, a, raster::compose(b, c), left);
+        let left = composing::compose(composing::compose(a, b), c);
+        t = composes(t, a, composing::compose(b, c), left);
         i += 1;
     }
     t

@@ -5,6 +5,5 @@ pub mod Below
 pub mod Made
 pub mod Composite
 pub mod Reducing
-pub mod Table
 pub mod Operations
 pub mod Samples

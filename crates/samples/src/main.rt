@@ -133,10 +133,10 @@ fn s8() -> bool {
 }
 
 fn s9() -> bool {
-    raster::compose(6, 6) == 5
-        && raster::compose(3, 6) == 0
-        && raster::compose(1, 7) == 3
-        && raster::compose(6, 1) == 2
+    composing::compose(6, 6) == 5
+        && composing::compose(3, 6) == 0
+        && composing::compose(1, 7) == 3
+        && composing::compose(6, 1) == 2
 }
 
 // Bytes 0 to 31 equal their index.

@@ -27,7 +27,7 @@ fn reduced(op: u8, mask: u8, source: u8, on: bool) -> Entry
         × (r .on ≡ value on) ⌝ }
 {
     let on = on as u8;
-    let r = raster::reduce(op, mask * on, source);
+    let r = pixels::reduce(op, mask * on, source);
     Entry {
         and: r.and,
         xor: r.xor,

@@ -1,11 +1,11 @@
--- `raster::compose` meets its contract: the table passes its test. Assumes nothing.
+-- `composing::compose` meets its contract: the table passes its test. Assumes nothing.
 use mathlib.Core.List.{List, [], _∷_}
 use Prim.Native.Nat.{ℕ}
 use borrow.Author.Needs.{needs}
 use Rattle.raster.specs.Pixel.{composite, result, number, bit}
-use Rattle.raster.proofs.Table.{found}
-use Rattle.raster.proofs.compose.Statement.{statement}
-use Rattle.raster.proofs.compose.Tie as tie
+use Rattle.composing.proofs.Table.{found}
+use Rattle.composing.proofs.compose.Statement.{statement}
+use Rattle.composing.proofs.compose.Tie as tie
 
 cast-row : tie.Need-cast-row
 cast-row c = search needs

@@ -1,12 +1,12 @@
--- `raster::make` meets its contract: the reduced operation makes the pixel. Assumes nothing.
+-- `pixels::make` meets its contract: the reduced operation makes the pixel. Assumes nothing.
 use mathlib.Core.Path.{_∙_, ap₂}
 use Prim.Native.Nat.{ℕ}
 use native.Mathlib.Omega.{arith}
 use lib.Bits.{bitAnd, bitXor}
 use borrow.Author.Needs.{needs}
 use Rattle.raster.proofs.Reducing.{reduced-made}
-use Rattle.raster.proofs.make.Statement.{statement}
-use Rattle.raster.proofs.make.Tie as tie
+use Rattle.pixels.proofs.make.Statement.{statement}
+use Rattle.pixels.proofs.make.Tie as tie
 
 reduce-requires : tie.Need-reduce-requires
 reduce-requires c κs = search needs

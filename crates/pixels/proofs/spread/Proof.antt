@@ -1,13 +1,13 @@
--- `raster::spread` meets its contract: the lowest bit, eight times. Assumes nothing.
+-- `pixels::spread` meets its contract: the lowest bit, eight times. Assumes nothing.
 use mathlib.Core.Path.{_≡_, refl}
 use Prim.Native.Nat.{ℕ, zero, suc, _%_, _*_, _<_}
 use native.Mathlib.Omega.{arith}
 use borrow.Author.Needs.{needs}
 use lib.Dec.{eqb}
 use Rattle.raster.specs.Pixel.{number}
 use Rattle.raster.proofs.Bits.{bit-zero}
-use Rattle.raster.proofs.spread.Statement.{statement}
-use Rattle.raster.proofs.spread.Tie as tie
+use Rattle.pixels.proofs.spread.Statement.{statement}
+use Rattle.pixels.proofs.spread.Tie as tie
 
 spread-digit : (m : ℕ) → m < 2 → m * 255 ≡ number 8 (λ k. eqb m 1)
 unfolding number

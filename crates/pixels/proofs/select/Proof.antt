@@ -1,14 +1,14 @@
--- `raster::select` meets its contract: the exclusive-or trick picks bit by bit. Assumes nothing.
+-- `pixels::select` meets its contract: the exclusive-or trick picks bit by bit. Assumes nothing.
 use mathlib.Core.Path.{_≡_, refl}
 use mathlib.Core.Bool.{Bool, true, false, cond, not}
 use Prim.Native.Nat.{ℕ, _<_}
 use native.Mathlib.Omega.{arith}
 use lib.Bits.{bitAnd, bitXor, xor-lt, and-lt}
 use Rattle.raster.specs.Pixel.{bit, number}
 use Rattle.raster.proofs.Bits.{bit-number, number-below, same-bits}
 use Rattle.raster.proofs.Bitwise.{bit-and, bit-xor}
-use Rattle.raster.proofs.select.Statement.{statement}
-use Rattle.raster.proofs.select.Tie as tie
+use Rattle.pixels.proofs.select.Statement.{statement}
+use Rattle.pixels.proofs.select.Tie as tie
 
 pick : (c a b : Bool) → cond b (not (cond c (cond a (not b) b) false)) (cond c (cond a (not b) b) false) ≡ cond c a b
 pick true true true = refl

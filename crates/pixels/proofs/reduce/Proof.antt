@@ -1,14 +1,14 @@
--- `raster::reduce` meets its contract: what the operation makes of a byte of zeros and of a byte of ones. Assumes nothing.
+-- `pixels::reduce` meets its contract: what the operation makes of a byte of zeros and of a byte of ones. Assumes nothing.
 use mathlib.Core.Path.{_≡_, ap₂}
 use mathlib.Core.Bool.{true, false}
 use Prim.Native.Nat.{ℕ}
 use lib.Bits.{bitXor}
 use borrow.Author.Needs.{needs}
 use Rattle.raster.specs.Pixel.{made}
 use Rattle.raster.proofs.Below.{bit-zeros, bit-ones}
 use Rattle.raster.proofs.Reducing.{made-constant, result-bits}
-use Rattle.raster.proofs.reduce.Statement.{statement}
-use Rattle.raster.proofs.reduce.Tie as tie
+use Rattle.pixels.proofs.reduce.Statement.{statement}
+use Rattle.pixels.proofs.reduce.Tie as tie
 
 spread-requires : tie.Need-spread-requires
 spread-requires c κs = search needs

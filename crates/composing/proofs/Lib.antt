@@ -1,0 +1,2 @@
+-- The table, shown once for all entries.
+pub mod Table
