@@ -1,3 +1,2 @@
--- The laws of typed numbers and of a replay.
-pub mod Digits
+-- The laws of a replay.
 pub mod Replays

@@ -1,3 +1,2 @@
 -- What the crate `player` means.
-pub mod Typed
 pub mod Playing

@@ -3,8 +3,8 @@
 use bounds::LARGEST_VRAM;
 use libc::STDERR_FILENO;
 use libc::STDOUT_FILENO;
-use player::Number;
 use player::Played;
+use typed::Number;
 
 fn complain(what: &[u8]) {
     io::write_all(STDERR_FILENO, b"replay: ");
@@ -35,7 +35,7 @@ fn decimal_argument(i: usize, other: u32) -> Number {
         };
     }
     let n = os::arg(i, &mut text);
-    player::decimal(&text[..n])
+    typed::decimal(&text[..n])
 }
 
 fn held_argument(i: usize) -> Number {
@@ -44,7 +44,7 @@ fn held_argument(i: usize) -> Number {
         return Number { ok: true, value: 0 };
     }
     let n = os::arg(i, &mut text);
-    player::two_hex_digits(&text[..n])
+    typed::two_hex_digits(&text[..n])
 }
 
 fn picture(vram: &[u8], width: usize) {

@@ -8,7 +8,7 @@ use lib.Dec.{ltb}
 use lib.ListN.{length, getD, drop, drop-of-length-le}
 use lib.Seq.{drop-cons}
 use borrow.Author.Tests.{lt-ltb, le-ltb}
-use Rattle.player.specs.Typed.{none, digitOf, digitsAfter}
+use Rattle.typed.specs.Typed.{none, digitOf, digitsAfter}
 
 or-true : (b : Bool) → b || true ≡ true
 or-true true = refl

@@ -4,7 +4,7 @@ use mathlib.Core.List.{List, [], _∷_}
 use Prim.Native.Nat.{ℕ, _+_, _-_, _*_}
 use lib.Dec.{eqb, leb, ltb}
 use lib.ListN.{length, getD}
-use Rattle.player.specs.declared.Number.{Number}
+use Rattle.typed.specs.declared.Number.{Number}
 
 -- the text is no number
 abbrev pub none : Number

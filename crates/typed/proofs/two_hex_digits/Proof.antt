@@ -1,9 +1,9 @@
--- `player::two_hex_digits` meets its contract. Assumes nothing.
+-- `typed::two_hex_digits` meets its contract. Assumes nothing.
 use borrow.Author.Tests.{eq-eqb, ne-eqb, le-leb, lt-leb}
-use Rattle.player.specs.Typed.{hexOf}
+use Rattle.typed.specs.Typed.{hexOf}
 use borrow.Author.Needs.{needs}
-use Rattle.player.proofs.two_hex_digits.Statement.{statement}
-use Rattle.player.proofs.two_hex_digits.Tie as tie
+use Rattle.typed.proofs.two_hex_digits.Statement.{statement}
+use Rattle.typed.proofs.two_hex_digits.Tie as tie
 
 returns : tie.Need-returns
 unfolding hexOf

@@ -1,10 +1,10 @@
--- `player::digit_of` meets its contract. Assumes nothing.
+-- `typed::digit_of` meets its contract. Assumes nothing.
 use native.Mathlib.Omega.{arith}
 use borrow.Author.Tests.{lt-ltb, le-ltb, le-leb, lt-leb}
-use Rattle.player.specs.Typed.{digitOf}
+use Rattle.typed.specs.Typed.{digitOf}
 use borrow.Author.Needs.{needs}
-use Rattle.player.proofs.digit_of.Statement.{statement}
-use Rattle.player.proofs.digit_of.Tie as tie
+use Rattle.typed.proofs.digit_of.Statement.{statement}
+use Rattle.typed.proofs.digit_of.Tie as tie
 
 returns : tie.Need-returns
 unfolding digitOf

@@ -1,4 +1,4 @@
--- `player::decimal` meets its contract. The loop's invariant: what is left of the text, after the value so far, reads as the whole does.
+-- `typed::decimal` meets its contract. The loop's invariant: what is left of the text, after the value so far, reads as the whole does.
 -- Assumes nothing.
 use mathlib.Core.Path.{_≡_, refl, ap, _∙_}
 use Prim.Native.Nat.{ℕ, _+_, _*_, _≤_, _<_, _-_}
@@ -7,10 +7,10 @@ use native.Mathlib.Omega.{arith}
 use borrow.Author.Needs.{needs}
 use borrow.Author.Tests.{eq-eqb, ne-eqb}
 use lib.ListN.{length, drop}
-use Rattle.player.specs.Typed.{digitsAfter, decimalOf}
-use Rattle.player.proofs.Digits.{bad-digit, too-long, one-more, at-end}
-use Rattle.player.proofs.decimal.Statement.{statement}
-use Rattle.player.proofs.decimal.Tie as tie
+use Rattle.typed.specs.Typed.{digitsAfter, decimalOf}
+use Rattle.typed.proofs.Digits.{bad-digit, too-long, one-more, at-end}
+use Rattle.typed.proofs.decimal.Statement.{statement}
+use Rattle.typed.proofs.decimal.Tie as tie
 
 abbrev Inv-loop : tie.InvT-loop
 Inv-loop text n value₀ i₀ value i =

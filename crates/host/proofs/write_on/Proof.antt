@@ -1,0 +1,16 @@
+-- `host::write_on` meets its contract. Assumes nothing.
+use borrow.Author.Needs.{needs}
+use Rattle.host.proofs.write_on.Statement.{statement}
+use Rattle.host.proofs.write_on.Tie as tie
+
+write-requires : tie.Need-write-requires
+write-requires c κs = search needs
+
+same-length : tie.Need-same-length
+same-length c = search needs
+
+returns : tie.Need-returns
+returns c = search needs
+
+pub write-on-spec : {M : Type 1} → statement M
+write-on-spec = tie.close (tie.spec write-requires same-length returns)

@@ -1,0 +1,2 @@
+-- The laws of typed numbers.
+pub mod Digits

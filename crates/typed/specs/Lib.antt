@@ -1,0 +1,2 @@
+-- What the crate `typed` means.
+pub mod Typed
