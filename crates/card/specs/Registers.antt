@@ -6,7 +6,7 @@ use Prim.Native.Nat.{ℕ, _^_, _-_}
 use lib.Dec.{eqb}
 use Rattle.card.specs.declared.Register.{Register}
 use Rattle.card.specs.declared.Register.the-variants.{Foreground, Background, PlaneMask, PixelMaskOnce, Mode, RasterOperation, PixelShift, PixelMask, FillMask, BlockColour, CopySource, CopyDestination, Missing}
-use Rattle.card.specs.declared.table.Row.{Row}
+use Rattle.card.specs.declared.Row.{Row}
 
 abbrev ones : ℕ
 ones = 2 ^ 32 - 1

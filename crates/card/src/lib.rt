@@ -3,8 +3,6 @@
 ghost use mathlib.Core.Path.{_≡_};
 ghost use Rattle.card.specs.Reset.{resetCard};
 
-pub mod table;
-
 // What a register offset names. The lasting and the one-shot pixel mask are one value at two offsets.
 pub enum Register {
     Foreground,
@@ -20,6 +18,21 @@ pub enum Register {
     CopySource,
     CopyDestination,
     Missing,
+}
+
+// A row of the register table. `kept` is the mask of the bits that a write keeps and a read shows.
+pub struct Row {
+    pub offset: u32,
+    pub register: Register,
+    pub kept: u32,
+    pub reset: u32,
+    pub readable: bool,
+}
+
+// What a register read answers.
+pub struct Reading {
+    pub number: u32,
+    pub value: u32,
 }
 
 // The registers that hold a number of their own. Pixel shift can only hold 0, so it has no field.

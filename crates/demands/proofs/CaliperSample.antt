@@ -9,7 +9,7 @@ use Rattle.span.specs.Layers.{drawnAll}
 use Rattle.span.specs.Spans.{spanned}
 use Rattle.card.specs.declared.Write.{Write}
 use Rattle.card.specs.Registers.{rowAt, rowIn, table}
-use Rattle.access.specs.Access.{stores}
+use Rattle.card.specs.Access.{stores}
 use Rattle.card.specs.Reset.{resetCard}
 use Rattle.rules.specs.Modes.{modeOf, frameSpan, spansOf, effectiveBy}
 use Rattle.rules.specs.Refusal.{badLength, badSpace, badLanes, noRegister, badMode, badRaster, offBoundary, outside, unloaded, refusal}

@@ -99,7 +99,7 @@ held-stays c w v i k h l e = masked-stays c w v i k h l (held-masked c i k l e)
 
 -- no write changes which planes are held
 pub held-kept : (c : Card) (w : Write) (v : List ℕ) → next c w v .held ≡ c .held
-unfolding next afterFrame afterRegister Rattle.access.specs.Access.stores
+unfolding next afterFrame afterRegister Rattle.card.specs.Access.stores
 held-kept c w v = go (accepted c w (length v)) (eqb (w .space) 1)
   where
     go : (a r : Bool) → cond a (cond r (afterRegister c w v) (afterFrame c w v)) c .held ≡ c .held

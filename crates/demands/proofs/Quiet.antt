@@ -15,7 +15,7 @@ use Rattle.span.proofs.Counted.{counted-zero}
 use Rattle.span.proofs.Layers.{drawnAll-none}
 use Rattle.span.proofs.Spans.{spanned-off}
 use Rattle.card.specs.Registers.{isSet, _is_}
-use Rattle.access.specs.Access.{stores}
+use Rattle.card.specs.Access.{stores}
 use Rattle.card.specs.declared.Card.{Card}
 use Rattle.card.specs.declared.Write.{Write}
 use Rattle.card.specs.declared.Register.the-variants.{CopySource}

@@ -247,7 +247,7 @@ fn line(what: &[u8], n: usize) {
 // The alarm border.
 fn alarm(vram: &mut [u8; 65536]) {
     border(vram);
-    line(b"alarm border, pixels: ", show::at_least(vram, 128));
+    line(b"alarm border, pixels: ", counting::at_least(vram, 128));
 }
 
 // The whole screen in grey.
@@ -261,7 +261,7 @@ fn bedside(vram: &mut [u8; 65536]) -> Card {
     let card = grey(vram);
     line(
         b"alarm border after a grey fill of the whole screen, pixels: ",
-        show::at_least(vram, 128),
+        counting::at_least(vram, 128),
     );
     trace(card, vram)
 }
@@ -272,7 +272,7 @@ fn measured(card: Card, vram: &mut [u8; 65536]) {
     caliper(card, vram);
     line(
         b"caliper drawn by exclusive-or, pixels changed: ",
-        show::differing(vram, &before),
+        counting::differing(vram, &before),
     );
     if os::arg_count() > 1 {
         save(vram);
@@ -280,7 +280,7 @@ fn measured(card: Card, vram: &mut [u8; 65536]) {
     caliper(card, vram);
     line(
         b"caliper taken off the same way, pixels left: ",
-        show::differing(vram, &before),
+        counting::differing(vram, &before),
     );
 }
 

@@ -56,7 +56,7 @@ pub fn left(effect: Effect, card: Card, w: Write, vram: &[u8]) -> Card
             next.copier.writing = CLEAR;
             next
         }
-        Effect::Stores { register, value } => access::store(card, register, value),
+        Effect::Stores { register, value } => storing::store(card, register, value),
         Effect::Loads => {
             let buffer = card.copier.buffer;
             let read = copy::load(vram, w.data, buffer);

@@ -12,7 +12,7 @@ use borrow.Author.Tests.{eq-eqb, ne-eqb, eqb-true, le-leb, le-ltb}
 use Rattle.span.specs.Fragments.{drawn}
 use Rattle.span.specs.Spans.{spanned, enabledIn}
 use Rattle.card.specs.Registers.{code, isSet, _is_}
-use Rattle.access.specs.Access.{stores}
+use Rattle.card.specs.Access.{stores}
 use Rattle.card.specs.declared.Card.{Card}
 use Rattle.card.specs.declared.Write.{Write}
 use Rattle.card.specs.declared.Register.the-variants.{CopySource, CopyDestination}

@@ -10,7 +10,7 @@ use Rattle.raster.specs.Pixel.{bit}
 use Rattle.span.specs.Fragments.{byte}
 use Rattle.span.specs.Spans.{Span, span}
 use Rattle.card.specs.Registers.{rowAt, isSet, _is_}
-use Rattle.access.specs.Access.{stores}
+use Rattle.card.specs.Access.{stores}
 use Rattle.card.specs.declared.Card.{Card}
 use Rattle.card.specs.declared.Copier.{Copier}
 use Rattle.card.specs.declared.Write.{Write}

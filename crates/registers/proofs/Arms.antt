@@ -7,7 +7,7 @@ use Rattle.card.specs.Registers.{rowAt, _is_}
 use Rattle.card.specs.declared.Card.{Card}
 use Rattle.card.specs.declared.Write.{Write}
 use Rattle.card.specs.declared.Register.the-variants.{CopySource, CopyDestination}
-use Rattle.card.specs.declared.table.Row.{Row}
+use Rattle.card.specs.declared.Row.{Row}
 use Rattle.rules.specs.Modes.{registerOf}
 use Rattle.plan.specs.Plan.{registerFaults, storingPlan, copyingPlan, registerPlanBy, registerPlan}
 use Rattle.plan.specs.declared.Effect.the-variants.{Loads, Unloads}

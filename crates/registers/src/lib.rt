@@ -9,7 +9,6 @@ use card::Card;
 use card::ONES;
 use card::Register;
 use card::Write;
-use card::table;
 use plan::Effect;
 use plan::Faults;
 use plan::LAST_OPERATION;
@@ -20,7 +19,7 @@ use plan::Plan;
 pub fn plan(card: Card, w: Write) -> Plan
     ensures { λ r. ⌜ r ≡ registerPlan (registerOf w) card w ⌝ }
 {
-    let row = table::find(w.address);
+    let row = lookup::find(w.address);
     let register = row.register;
     let data = w.data;
     let value = data & row.kept;

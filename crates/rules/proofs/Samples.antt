@@ -9,7 +9,7 @@ use Rattle.span.specs.Fragments.{byte, from, before, drawn, counted, listed}
 use Rattle.span.specs.Layers.{drawnAll}
 use Rattle.card.specs.declared.Write.{Write}
 use Rattle.card.specs.Registers.{rowAt, rowIn, table}
-use Rattle.access.specs.Access.{stores}
+use Rattle.card.specs.Access.{stores}
 use Rattle.card.specs.Reset.{resetCard}
 use Rattle.span.specs.Spans.{spanned}
 use Rattle.rules.specs.Modes.{modeOf, frameSpan, spansOf, effectiveBy}

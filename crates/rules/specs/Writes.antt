@@ -10,7 +10,7 @@ use Rattle.span.specs.Fragments.{Fragment, listed}
 use Rattle.span.specs.Layers.{drawnAll, summed}
 use Rattle.span.specs.Spans.{spanned, enabledIn}
 use Rattle.card.specs.Registers.{rowAt, isSet, _is_}
-use Rattle.access.specs.Access.{stores}
+use Rattle.card.specs.Access.{stores}
 use Rattle.card.specs.declared.Card.{Card}
 use Rattle.card.specs.declared.Copier.{Copier}
 use Rattle.card.specs.declared.Mask.{Mask}

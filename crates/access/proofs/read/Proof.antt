@@ -3,9 +3,9 @@ use mathlib.Core.Path.{ap, ap₂, sym, _∙_}
 use Prim.Native.Nat.{ℕ}
 use lib.Bits.{bitAnd}
 use borrow.Author.Needs.{needs}
-use Rattle.access.specs.Access.{holds}
-use Rattle.card.specs.declared.table.Row.{Row}
-use Rattle.access.proofs.Readings.{reading-held, reading-missing}
+use Rattle.card.specs.Access.{holds}
+use Rattle.card.specs.declared.Row.{Row}
+use Rattle.card.proofs.Readings.{reading-held, reading-missing}
 use Rattle.access.proofs.read.Statement.{statement}
 use Rattle.access.proofs.read.Tie as tie
 

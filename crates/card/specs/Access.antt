@@ -3,14 +3,14 @@ use mathlib.Core.Bool.{cond, _||_}
 use Prim.Native.Nat.{ℕ, _%_}
 use lib.Bits.{bitAnd}
 use lib.ListN.{getD, set}
 use Rattle.card.specs.Registers.{rowAt, index, _is_}
 use Rattle.card.specs.declared.Card.{Card}
 use Rattle.card.specs.declared.Copier.{Copier}
 use Rattle.card.specs.declared.Mask.{Mask}
 use Rattle.card.specs.declared.Register.{Register}
 use Rattle.card.specs.declared.Register.the-variants.{Foreground, Background, PlaneMask, PixelMaskOnce, Mode, RasterOperation, PixelShift, PixelMask, FillMask, BlockColour, CopySource, CopyDestination, Missing}
 use Rattle.card.specs.declared.Registers.{Registers}
-use Rattle.access.specs.declared.Reading.{Reading}
+use Rattle.card.specs.declared.Reading.{Reading}
 
 -- what a register holds. Pixel shift only ever holds 0
 abbrev pub holds : Card → Register → ℕ

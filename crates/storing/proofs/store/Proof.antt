@@ -1,8 +1,8 @@
--- `access::store` meets its contract: each arm is the definition at that register. Assumes nothing.
-use Rattle.access.specs.Access.{stores}
+-- `storing::store` meets its contract: each arm is the definition at that register. Assumes nothing.
+use Rattle.card.specs.Access.{stores}
 use borrow.Author.Needs.{needs}
-use Rattle.access.proofs.store.Statement.{statement}
-use Rattle.access.proofs.store.Tie as tie
+use Rattle.storing.proofs.store.Statement.{statement}
+use Rattle.storing.proofs.store.Tie as tie
 
 enum-told : tie.Need-enum-told
 enum-told c = search needs

@@ -1,4 +1,4 @@
--- `show::at_least` meets its contract. The loop's invariant: the bytes passed are counted. Assumes nothing.
+-- `counting::at_least` meets its contract. The loop's invariant: the bytes passed are counted. Assumes nothing.
 use mathlib.Core.Path.{_≡_, refl, ap₂, sym, _∙_}
 use Prim.Native.Nat.{ℕ, _+_, _≤_, _-_}
 use native.Mathlib.Omega.{arith}
@@ -8,8 +8,8 @@ use lib.Dec.{leb}
 use lib.ListN.{length, getD}
 use Rattle.span.specs.Fragments.{counted}
 use Rattle.span.proofs.Counted.{counted-step}
-use Rattle.show.proofs.at_least.Statement.{statement}
-use Rattle.show.proofs.at_least.Tie as tie
+use Rattle.counting.proofs.at_least.Statement.{statement}
+use Rattle.counting.proofs.at_least.Tie as tie
 
 abbrev Inv-loop : tie.InvT-loop
 Inv-loop a least end n₀ i₀ n i = (end ≡ length a) × (i ≤ end) × (n ≤ i) × (n ≡ counted i (λ k. leb least (getD a k 0)))

@@ -1,10 +1,10 @@
--- `card::table::find` meets its contract: each arm is a row of the table. Assumes nothing.
+-- `lookup::find` meets its contract: each arm is a row of the table. Assumes nothing.
 use mathlib.Core.Path.{sym, _∙_}
 use borrow.Author.Tests.{ne-eqb}
 use Rattle.card.specs.Registers.{rowAt, rowIn, table}
 use borrow.Author.Needs.{needs}
-use Rattle.card.proofs.table.find.Statement.{statement}
-use Rattle.card.proofs.table.find.Tie as tie
+use Rattle.lookup.proofs.find.Statement.{statement}
+use Rattle.lookup.proofs.find.Tie as tie
 
 listed-requires : tie.Need-listed-requires
 listed-requires c κs = search needs

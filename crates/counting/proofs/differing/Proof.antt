@@ -1,4 +1,4 @@
--- `show::differing` meets its contract. The loop's invariant: the bytes passed are counted. Assumes nothing.
+-- `counting::differing` meets its contract. The loop's invariant: the bytes passed are counted. Assumes nothing.
 use mathlib.Core.Path.{_≡_, refl, ap₂, sym, _∙_}
 use mathlib.Core.Bool.{not}
 use Prim.Native.Nat.{ℕ, _+_, _≤_, _-_, min}
@@ -9,8 +9,8 @@ use lib.Dec.{eqb}
 use lib.ListN.{length, getD}
 use Rattle.span.specs.Fragments.{counted}
 use Rattle.span.proofs.Counted.{counted-step}
-use Rattle.show.proofs.differing.Statement.{statement}
-use Rattle.show.proofs.differing.Tie as tie
+use Rattle.counting.proofs.differing.Statement.{statement}
+use Rattle.counting.proofs.differing.Tie as tie
 
 abbrev Inv-loop : tie.InvT-loop
 Inv-loop a b end n₀ i₀ n i = (end ≡ min (length a) (length b)) × (i ≤ end) × (n ≤ i) × (n ≡ counted i (λ k. not (eqb (getD a k 0) (getD b k 0))))

@@ -1,17 +1,9 @@
-// The register table: the rows of specs/Registers.antt.
+// The register table: the rows of `card/specs/Registers.antt`.
 ghost use mathlib.Core.Path.{_≡_};
 ghost use Rattle.card.specs.Registers.{row, rowAt};
-use crate::ONES;
-use crate::Register;
-
-// A row of the register table. `kept` is the mask of the bits that a write keeps and a read shows.
-pub struct Row {
-    pub offset: u32,
-    pub register: Register,
-    pub kept: u32,
-    pub reset: u32,
-    pub readable: bool,
-}
+use card::ONES;
+use card::Register;
+use card::Row;
 
 fn listed(offset: u32, register: Register, kept: u32, reset: u32, readable: bool) -> Row
     ensures { λ r. ⌜ r ≡ row offset register kept reset readable ⌝ }

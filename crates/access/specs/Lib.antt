@@ -1,2 +1,0 @@
--- What the crate `access` means.
-pub mod Access
