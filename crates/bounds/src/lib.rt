@@ -1,4 +1,4 @@
-// The tests of numbers 1 and 2, which traces and read-back use too, and of 8.
+// The tests of number 1, which traces and read-back use too, of 2, which appending does, and of 8, which drawing does.
 ghost use mathlib.Core.Path.{_≡_};
 ghost use Prim.Native.Nat.{_+_};
 ghost use lib.Dec.{ltb};

@@ -1,4 +1,4 @@
-// The composites of the raster operations, beside the scope paper's "How one pixel is made".
+// One pixel and the composites of the raster operations, beside the scope paper's "How one pixel is made".
 ghost use Prim.Native.Nat.{_≤_};
 use crate::counting::with;
 
@@ -8,6 +8,34 @@ fn new_bit(op: u8, s: u8, d: u8) -> u8
     ensures { λ r. ⌜ r ≤ 1 ⌝ }
 {
     (op >> (3 - 2 * s - d)) % 2
+}
+
+// The bits that an operation gives for source and old bit 11, 10, 01 and 00, the first its highest.
+fn four_bits(op: u8) -> u8
+    ensures { λ r. ⌜ r ≤ 15 ⌝ }
+{
+    8 * new_bit(op, 1, 1) + 4 * new_bit(op, 1, 0) + 2 * new_bit(op, 0, 1) + new_bit(op, 0, 0)
+}
+
+// Bits 7:4 of the pixel drawn, then bits 3:0: all eight cases of mask, source and old bit.
+fn made(right: u32, op: u8) -> u32 {
+    let bits = four_bits(op);
+    let t = with(
+        right,
+        pixels::make(op, 0xF0, 0xCC, 0xAA) == 16 * bits + 0x0A,
+    );
+    with(t, pixels::make(op, 0x0F, 0xCC, 0xAA) == 0xA0 + bits)
+}
+
+// A pixel under every operation.
+pub(crate) fn one_pixel() -> u32 {
+    let mut t: u32 = 0;
+    let mut op: u8 = 0;
+    while op < 16 {
+        t = made(t, op);
+        op += 1;
+    }
+    t
 }
 
 // The bit that b gives for s and for the bit that a gives for s and d.

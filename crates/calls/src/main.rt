@@ -1,4 +1,4 @@
-// Register reads, read-back and the composites through the code, each answer compared with the scope paper's.
+// Register reads, read-back, one pixel and the composites through the code, each answer compared with the scope paper's.
 // A line for each group says how many answers were right, of how many.
 use libc::STDOUT_FILENO;
 
@@ -51,6 +51,11 @@ fn read_back() {
 }
 
 fn composed() {
+    says(
+        b"one pixel under every operation: ",
+        composites::one_pixel(),
+        32,
+    );
     says(b"composites of S9: ", composites::s9(), 4);
     says(b"composites by the rule: ", composites::by_the_rule(), 256);
     says(

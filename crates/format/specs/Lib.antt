@@ -1,4 +1,4 @@
--- What the crates of traces as bytes mean: scope paper, "Traces".
+-- Traces as bytes: scope paper, "Traces", the first and the third paragraph.
 pub mod Bytes
 pub mod Traces
 pub mod Recording

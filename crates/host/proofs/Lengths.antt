@@ -1,5 +1,5 @@
--- The lengths of traces and the offsets within them fit 32 bits, and stand for the parts of the definitions. Assumes nothing.
-use mathlib.Core.Path.{_≡_, refl, ap}
+-- The lengths of traces fit 32 bits, and the bytes from 16 on stand for the part of the definitions. Assumes nothing.
+use mathlib.Core.Path.{_≡_, refl}
 use mathlib.Core.Bool.{Bool, true, false, cond}
 use mathlib.Core.List.{List}
 use Prim.Native.Nat.{ℕ, _+_, _*_, _^_, _<_, _≤_}
@@ -8,17 +8,12 @@ use lib.Dec.{eqb}
 use lib.ListN.{length, drop, take, length-drop}
 use lib.Seq.{length-take-le}
 use borrow.Author.Tests.{eqb-true}
-use Rattle.card.specs.declared.Card.{Card}
 use Rattle.card.specs.declared.Write.{Write}
 use Rattle.format.specs.Traces.{largest, isTrace, checkNumber, checkPart}
 use Rattle.format.specs.Recording.{startNumber, startLength, appendNumber, appendLength}
-use Rattle.trace.specs.Run.{State, outcomeOf, run, unread}
-use Rattle.trace.specs.declared.Ran.{Ran}
 use Rattle.format.proofs.Tested.{formed, traced}
 use Rattle.format.proofs.Checking.{good, bad}
 use Rattle.format.proofs.RecordingTests.{appendable}
-use Rattle.trace.proofs.Demands.{outcome}
-use Rattle.host.specs.Entries.{Replayed}
 
 pub start-fits : (size vram : ℕ) {n : ℕ} → n ≡ startLength size vram → n < 2 ^ 32
 unfolding startLength
@@ -51,21 +46,3 @@ entries-at-16 v e z = go (isTrace v) refl
     go : (t : Bool) → isTrace v ≡ t → drop 16 v ≡ checkPart v
     go true d = good v d .0
     go false d = absurd (omega (arith, bad v d .1, e, z))
-
-module _ (part : List ℕ) (budget : ℕ) (c : Card) (v : List ℕ) {r : Ran} {v′ : List ℕ} (e : outcomeOf r v′ ≡ run part budget c v) where
-  pub rest-fits : 12 * r .applied < 2 ^ 32
-  rest-fits = omega (arith, outcome part budget c v .within-largest, ap (λ (s : State). s .applied) e)
-
-  -- what a run answers, with the offset of its unread part
-  pub replayed : Replayed part budget c v (record { number = r .number; entries = r .applied; pixels = r .pixels; rest = 12 * r .applied }) (r .card) v′
-  unfolding unread
-  replayed =
-      record {
-        number = ap (λ (s : State). s .number) e;
-        entries = ap (λ (s : State). s .applied) e;
-        pixels = ap (λ (s : State). s .pixels) e;
-        rest = ap (λ (s : State). 12 * s .applied) e;
-        unreads = ap (λ (s : State). drop (12 * s .applied) part) e;
-        leaves = ap (λ (s : State). s .card) e;
-        shows = ap (λ (s : State). s .picture) e;
-      }

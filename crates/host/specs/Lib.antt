@@ -1,2 +1,2 @@
 -- What the crate `host` means: the entries for a host that keeps one card.
-pub mod Entries
+pub mod Buffers

@@ -2,34 +2,18 @@
 // include/zevkholtai.h declares these functions; what each means stands in specs/.
 ghost use mathlib.Core.Path.{_≡_};
 ghost use Rattle.card.specs.Reset.{resetCard};
-ghost use Rattle.host.specs.Entries.{writeOf, Wrote, Began, Grew, Looked, Replayed};
+ghost use Rattle.answers.specs.Answers.{writeOf, Wrote, Replayed};
+ghost use Rattle.host.specs.Buffers.{Began, Grew, Looked};
+use answers::Answer;
+use answers::Ran;
 use card::Card;
 use card::Write;
-
-// The size of a trace's entry.
-const ENTRY: u32 = format::ENTRY as u32;
-
-// What a write answers: its number and the pixels enabled.
-#[repr(C)]
-pub struct Answer {
-    pub number: u32,
-    pub count: u32,
-}
 
 // What starting, appending and checking answer: the number, and a length in bytes.
 #[repr(C)]
 pub struct Checked {
     pub number: u32,
     pub length: u32,
-}
-
-// What a run answers: the number, the entries applied, the total pixels, and where the unread part begins.
-#[repr(C)]
-pub struct Ran {
-    pub number: u32,
-    pub entries: u32,
-    pub pixels: u32,
-    pub rest: u32,
 }
 
 // ---- One card, changed in place.
@@ -55,7 +39,7 @@ pub extern "C" fn zevkholtai_write(
     ensures { λ r. ⌜
         Wrote (now (card .entry)) (writeOf space lanes address word) (now (vram .entry)) r (now (card .exit)) (now (vram .exit)) ⌝ }
 {
-    let s = write_on(*card, space, lanes, address, word, vram);
+    let s = answers::write_on(*card, space, lanes, address, word, vram);
     *card = s.card;
     s.answer
 }
@@ -66,7 +50,7 @@ pub extern "C" fn zevkholtai_run(card: &mut Card, part: &[u8], vram: &mut [u8], 
     ensures { λ r. ⌜
         Replayed (now (part .entry)) budget (now (card .entry)) (now (vram .entry)) r (now (card .exit)) (now (vram .exit)) ⌝ }
 {
-    let s = run_on(*card, part, vram, budget);
+    let s = answers::run_on(*card, part, vram, budget);
     *card = s.card;
     s.ran
 }
@@ -121,51 +105,4 @@ pub extern "C" fn zevkholtai_check(bytes: &[u8]) -> Checked
     let mut length: u32 = 0;
     checking::check(bytes, &mut number, &mut length);
     Checked { number, length }
-}
-
-// ---- The same on a card by value: each entry above takes the card out, calls one of these, and stores the next card in place.
-
-struct Written {
-    card: Card,
-    answer: Answer,
-}
-
-struct Run {
-    card: Card,
-    ran: Ran,
-}
-
-// One write, given as its four numbers.
-fn write_on(card: Card, space: u8, lanes: u8, address: u32, word: u32, vram: &mut [u8]) -> Written
-    ensures { λ r. ⌜ Wrote card (writeOf space lanes address word) (now (vram .entry)) (r .answer) (r .card) (now (vram .exit)) ⌝ }
-{
-    let w = Write {
-        space,
-        lanes,
-        address,
-        data: word,
-    };
-    let a = engine::write(card, w, vram);
-    let next = a.card;
-    let answer = Answer {
-        number: a.number,
-        count: a.tally.enabled,
-    };
-    Written { card: next, answer }
-}
-
-// A run, with the offset of what it left unread.
-fn run_on(card: Card, part: &[u8], vram: &mut [u8], budget: u32) -> Run
-    ensures { λ r. ⌜ Replayed (now (part .entry)) budget card (now (vram .entry)) (r .ran) (r .card) (now (vram .exit)) ⌝ }
-{
-    let t = trace::run(part, card, vram, budget);
-    let rest = ENTRY * t.applied;
-    let next = t.card;
-    let ran = Ran {
-        number: t.number,
-        entries: t.applied,
-        pixels: t.pixels,
-        rest,
-    };
-    Run { card: next, ran }
 }

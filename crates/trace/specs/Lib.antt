@@ -1,2 +1,2 @@
--- What the crate `trace` means: scope paper, "Traces".
+-- What the crate `trace` means: scope paper, "Traces", the second paragraph.
 pub mod Run

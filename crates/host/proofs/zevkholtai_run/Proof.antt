@@ -45,18 +45,18 @@ use denote.Triple.Walked.{says, Stay, Stays, stay-ref, stay-dropped, gave-slice,
 use denote.Exit.{yes}
 use Rattle.card.specs.declared.Card.{Card}
 use Rattle.card.proofs.Card as T
-use Rattle.host.specs.declared.Ran.{Ran}
-use Rattle.host.specs.declared.Run.{Run}
-use Rattle.host.specs.Entries.{Replayed}
-use Rattle.host.proofs.Ran as N
-use Rattle.host.proofs.Ran.Laws as N′
-use Rattle.host.proofs.Run as O
-use Rattle.host.proofs.Run.Laws as O′
+use Rattle.answers.specs.declared.Ran.{Ran}
+use Rattle.answers.specs.declared.Run.{Run}
+use Rattle.answers.specs.Answers.{Replayed}
+use Rattle.answers.proofs.Ran as N
+use Rattle.answers.proofs.Ran.Laws as N′
+use Rattle.answers.proofs.Run as O
+use Rattle.answers.proofs.Run.Laws as O′
 use Rattle.host.proofs.Lent.{cardS, byteS, word-stay, word-goes, spell, typed, slice-typed, word-owned, card-owned, card-opens, card-closes}
-use Rattle.host.proofs.run_on as run-on
-use Rattle.host.proofs.run_on.Symbol as run-on-def
-use Rattle.host.proofs.run_on.Symbol.{name as #host·run-on}
-use Rattle.host.proofs.run_on.Met as run-on-thm
+use Rattle.answers.proofs.run_on as run-on
+use Rattle.answers.proofs.run_on.Symbol as run-on-def
+use Rattle.answers.proofs.run_on.Symbol.{name as #answers·run-on}
+use Rattle.answers.proofs.run_on.Met as run-on-thm
 use Rattle.host.proofs.zevkholtai_run.Key.{name as #host·zevkholtai-run}
 use Rattle.host.proofs.zevkholtai_run as f
 use Rattle.host.proofs.zevkholtai_run.Statement as stated
@@ -159,7 +159,7 @@ module _ {M : Type 1} (𝓤 : URA M) (H : Heap 𝓤) (A : Atoms 𝓤) (W : Given
       nothing ! $ nothing ! $ fjoin ! $ move ! (2 ∷ 0 ∷ []) $ fjoin ! $ nothing ! $ fjoin ! $ move ! (1 ∷ 0 ∷ []) $ fjoin ! $
       owned ! N.the-row (Is N.the-row) (LL.makes N.the-type N′.the-plain 𝓤 H A) (r .ran) _ is $ move ! (1 ∷ 0 ∷ []) $ done !
 
-  module _ (C : Calls 𝓤 H) (Λ : Loops 𝓤 H) (fm : FmC 𝓤 H (W .laws) C) (known : Triple 𝓤 (C #host·run-on) (RunOn 𝓤 H A at-mem run)) where
+  module _ (C : Calls 𝓤 H) (Λ : Loops 𝓤 H) (fm : FmC 𝓤 H (W .laws) C) (known : Triple 𝓤 (C #answers·run-on) (RunOn 𝓤 H A at-mem run)) where
     walk : ent 𝓤 (onEntry 𝓤 H A f.signature (κ, (κ₁, (κ₂, tt))) (q, (q₁, (q₂, tt))) a (vptr b o ∷ [], vals)) (WpFn 𝓤 H C Λ code.function passed Post)
     walk =
         qed W ((‵ (flft κ q) ⊛ lives)
@@ -205,7 +205,7 @@ module _ {M : Type 1} (𝓤 : URA M) (H : Heap 𝓤) (A : Atoms 𝓤) (W : Given
         keep ! (0 ∷ 1 ∷ 2 ∷ 3 ∷ 4 ∷ []) $ by ! (exits r (at-last zs) e l (ran-is r u is′))))))))))))))))))
 
 module _ {M : Type 1} (𝓤 : URA M) (H : Heap 𝓤) (A : Atoms 𝓤) (W : Given 𝓤 H A) (at-mem : Memory → SProp 𝓤) (run : Routine → Fun 𝓤) where
-  zevkholtai-run-walks : (C : Calls 𝓤 H) (Λ : Loops 𝓤 H) → FmC 𝓤 H (W .laws) C → Triple 𝓤 (C #host·run-on) (RunOn 𝓤 H A at-mem run)
+  zevkholtai-run-walks : (C : Calls 𝓤 H) (Λ : Loops 𝓤 H) → FmC 𝓤 H (W .laws) C → Triple 𝓤 (C #answers·run-on) (RunOn 𝓤 H A at-mem run)
       → Walks 𝓤 H A f.ended stayed (WpFn 𝓤 H C Λ code.function) (f.clauses 𝓤 H A at-mem run)
   zevkholtai-run-walks C Λ fm known =
       walked 𝓤 H A f.ended stayed (f.clauses 𝓤 H A at-mem run) (WpFn 𝓤 H C Λ code.function)
@@ -221,7 +221,7 @@ goes 𝓤 H A W =
     (goes-ref 𝓤 H A W 3 0 tt cardS, (part, (goes-gave-slice 𝓤 H A W 3 2 tt byteS, (word-goes 𝓤 H A W 3, tt))))
 
 zevkholtai-run-meets : {M : Type 1} (𝓤 : URA M) (H : Heap 𝓤) (A : Atoms 𝓤) → Given 𝓤 H A → (at-mem : Memory → SProp 𝓤) (run : Routine → Fun 𝓤) (𝓣 : Tables 𝓤 H)
-    → Triple 𝓤 (𝓣 .C #host·run-on) (RunOn 𝓤 H A at-mem run)
+    → Triple 𝓤 (𝓣 .C #answers·run-on) (RunOn 𝓤 H A at-mem run)
     → Meets 𝓤 H A f.signature (WpFn 𝓤 H (𝓣 .C) (𝓣 .Λ) code.function) (f.spec 𝓤 H A at-mem run)
 zevkholtai-run-meets 𝓤 H A W at-mem run 𝓣 known =
     walk-meets 𝓤 H A f.ended stayed W (goes 𝓤 H A W) (f.clauses 𝓤 H A at-mem run)
@@ -234,4 +234,4 @@ zevkholtai-run-spec 𝓤 H 𝓜 𝓖 𝓡 =
     entered 𝓤 H (tripleOf 𝓤 H (𝓖 .A) f.signature (f.spec 𝓤 H (𝓖 .A) (𝓜 .mem) (𝓡 .run)))
     (tables 𝓤 H 𝓜 𝓡 code.env .C) (tables 𝓤 H 𝓜 𝓡 code.env .Λ) #host·zevkholtai-run code.function (code.unfolded 𝓤 H 𝓜 𝓡)
     (zevkholtai-run-meets 𝓤 H (𝓖 .A) (givenOf 𝓤 H 𝓜 𝓖) (𝓜 .mem) (𝓡 .run) (tablesOf 𝓤 H 𝓜 (tables 𝓤 H 𝓜 𝓡 code.env))
-    (cited 𝓤 H (RunOn 𝓤 H (𝓖 .A) (𝓜 .mem) (𝓡 .run)) 𝓜 𝓡 code.env #host·run-on run-on-def.routine code.calls-host·run-on (run-on-thm.met 𝓤 H 𝓜 𝓖 𝓡)))
+    (cited 𝓤 H (RunOn 𝓤 H (𝓖 .A) (𝓜 .mem) (𝓡 .run)) 𝓜 𝓡 code.env #answers·run-on run-on-def.routine code.calls-answers·run-on (run-on-thm.met 𝓤 H 𝓜 𝓖 𝓡)))

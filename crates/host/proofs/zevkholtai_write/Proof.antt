@@ -44,18 +44,18 @@ use denote.Triple.Walked.{says, Stays, stay-ref, gave-slice, walkOf, AllGo, goes
 use Rattle.card.specs.declared.Card.{Card}
 use Rattle.card.specs.declared.Write.{Write}
 use Rattle.card.proofs.Card as T
-use Rattle.host.specs.declared.Answer.{Answer}
-use Rattle.host.specs.declared.Written.{Written}
-use Rattle.host.specs.Entries.{writeOf, Wrote}
-use Rattle.host.proofs.Answer as N
-use Rattle.host.proofs.Answer.Laws as N′
-use Rattle.host.proofs.Written as O
-use Rattle.host.proofs.Written.Laws as O′
+use Rattle.answers.specs.declared.Answer.{Answer}
+use Rattle.answers.specs.declared.Written.{Written}
+use Rattle.answers.specs.Answers.{writeOf, Wrote}
+use Rattle.answers.proofs.Answer as N
+use Rattle.answers.proofs.Answer.Laws as N′
+use Rattle.answers.proofs.Written as O
+use Rattle.answers.proofs.Written.Laws as O′
 use Rattle.host.proofs.Lent.{cardS, byteS, byte-stay, word-stay, byte-goes, word-goes, spell, typed, slice-typed, byte-owned, word-owned, card-owned, card-opens, card-closes}
-use Rattle.host.proofs.write_on as write-on
-use Rattle.host.proofs.write_on.Symbol as write-on-def
-use Rattle.host.proofs.write_on.Symbol.{name as #host·write-on}
-use Rattle.host.proofs.write_on.Met as write-on-thm
+use Rattle.answers.proofs.write_on as write-on
+use Rattle.answers.proofs.write_on.Symbol as write-on-def
+use Rattle.answers.proofs.write_on.Symbol.{name as #answers·write-on}
+use Rattle.answers.proofs.write_on.Met as write-on-thm
 use Rattle.host.proofs.zevkholtai_write.Key.{name as #host·zevkholtai-write}
 use Rattle.host.proofs.zevkholtai_write as f
 use Rattle.host.proofs.zevkholtai_write.Statement as stated
@@ -155,7 +155,7 @@ module _ {M : Type 1} (𝓤 : URA M) (H : Heap 𝓤) (A : Atoms 𝓤) (W : Given
       nothing ! $ move ! (2 ∷ 0 ∷ []) $ fjoin ! $ nothing ! $ fjoin ! $ nothing ! $ fjoin ! $ nothing ! $ fjoin ! $ nothing ! $ fjoin ! $
       move ! (1 ∷ 0 ∷ []) $ fjoin ! $ owned ! N.the-row (Is N.the-row) (LL.makes N.the-type N′.the-plain 𝓤 H A) (r .answer) _ is $ move ! (1 ∷ 0 ∷ []) $ done !
 
-  module _ (C : Calls 𝓤 H) (Λ : Loops 𝓤 H) (fm : FmC 𝓤 H (W .laws) C) (known : Triple 𝓤 (C #host·write-on) (WriteOn 𝓤 H A at-mem run)) where
+  module _ (C : Calls 𝓤 H) (Λ : Loops 𝓤 H) (fm : FmC 𝓤 H (W .laws) C) (known : Triple 𝓤 (C #answers·write-on) (WriteOn 𝓤 H A at-mem run)) where
     walk : ent 𝓤 (onEntry 𝓤 H A f.signature (κ, (κ′, tt)) (q, (q′, tt)) a (vptr b o ∷ [], vals)) (WpFn 𝓤 H C Λ code.function passed Post)
     walk =
         qed W ((‵ (flft κ q) ⊛ lives) ∷ ‵ (owns (MutRef (named 0) κ T.the-row ∷ u8 ∷ u8 ∷ u32 ∷ u32 ∷ MutSlice (named 1) κ′ u8 ∷ []) a (vptr b o ∷ [], vals)) ∷ []) ∵
@@ -203,7 +203,7 @@ module _ {M : Type 1} (𝓤 : URA M) (H : Heap 𝓤) (A : Atoms 𝓤) (W : Given
         keep ! (0 ∷ 1 ∷ 2 ∷ 3 ∷ 4 ∷ []) $ by ! (exits r (at-last zs) e l (answer-is r u is′))))))))))))))))))))
 
 module _ {M : Type 1} (𝓤 : URA M) (H : Heap 𝓤) (A : Atoms 𝓤) (W : Given 𝓤 H A) (at-mem : Memory → SProp 𝓤) (run : Routine → Fun 𝓤) where
-  zevkholtai-write-walks : (C : Calls 𝓤 H) (Λ : Loops 𝓤 H) → FmC 𝓤 H (W .laws) C → Triple 𝓤 (C #host·write-on) (WriteOn 𝓤 H A at-mem run)
+  zevkholtai-write-walks : (C : Calls 𝓤 H) (Λ : Loops 𝓤 H) → FmC 𝓤 H (W .laws) C → Triple 𝓤 (C #answers·write-on) (WriteOn 𝓤 H A at-mem run)
       → Walks 𝓤 H A f.ended stayed (WpFn 𝓤 H C Λ code.function) (f.clauses 𝓤 H A at-mem run)
   zevkholtai-write-walks C Λ fm known =
       let byte = uint-tells w8 in
@@ -222,7 +222,7 @@ goes 𝓤 H A W =
     (goes-ref 𝓤 H A W 2 0 tt cardS, (byte, (byte, (word, (word, (goes-gave-slice 𝓤 H A W 2 1 tt byteS, tt))))))
 
 zevkholtai-write-meets : {M : Type 1} (𝓤 : URA M) (H : Heap 𝓤) (A : Atoms 𝓤) → Given 𝓤 H A → (at-mem : Memory → SProp 𝓤) (run : Routine → Fun 𝓤) (𝓣 : Tables 𝓤 H)
-    → Triple 𝓤 (𝓣 .C #host·write-on) (WriteOn 𝓤 H A at-mem run)
+    → Triple 𝓤 (𝓣 .C #answers·write-on) (WriteOn 𝓤 H A at-mem run)
     → Meets 𝓤 H A f.signature (WpFn 𝓤 H (𝓣 .C) (𝓣 .Λ) code.function) (f.spec 𝓤 H A at-mem run)
 zevkholtai-write-meets 𝓤 H A W at-mem run 𝓣 known =
     walk-meets 𝓤 H A f.ended stayed W (goes 𝓤 H A W) (f.clauses 𝓤 H A at-mem run)
@@ -235,4 +235,4 @@ zevkholtai-write-spec 𝓤 H 𝓜 𝓖 𝓡 =
     entered 𝓤 H (tripleOf 𝓤 H (𝓖 .A) f.signature (f.spec 𝓤 H (𝓖 .A) (𝓜 .mem) (𝓡 .run)))
     (tables 𝓤 H 𝓜 𝓡 code.env .C) (tables 𝓤 H 𝓜 𝓡 code.env .Λ) #host·zevkholtai-write code.function (code.unfolded 𝓤 H 𝓜 𝓡)
     (zevkholtai-write-meets 𝓤 H (𝓖 .A) (givenOf 𝓤 H 𝓜 𝓖) (𝓜 .mem) (𝓡 .run) (tablesOf 𝓤 H 𝓜 (tables 𝓤 H 𝓜 𝓡 code.env))
-    (cited 𝓤 H (WriteOn 𝓤 H (𝓖 .A) (𝓜 .mem) (𝓡 .run)) 𝓜 𝓡 code.env #host·write-on write-on-def.routine code.calls-host·write-on (write-on-thm.met 𝓤 H 𝓜 𝓖 𝓡)))
+    (cited 𝓤 H (WriteOn 𝓤 H (𝓖 .A) (𝓜 .mem) (𝓡 .run)) 𝓜 𝓡 code.env #answers·write-on write-on-def.routine code.calls-answers·write-on (write-on-thm.met 𝓤 H 𝓜 𝓖 𝓡)))

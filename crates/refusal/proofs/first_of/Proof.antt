@@ -7,8 +7,6 @@ use Rattle.plan.specs.Plan.{firstOf}
 use Rattle.plan.proofs.Rows.{first-step}
 use Rattle.refusal.proofs.first_of.Statement.{statement}
 use Rattle.refusal.proofs.first_of.Tie as tie
-use Rattle.refusal.proofs.first_of.Reads as reads
-use Rattle.refusal.proofs.first_of.Lts as lts
 
 abbrev Inv-loop : tie.InvT-loop
 Inv-loop numbers tests i₀ i = (i ≤ 9) × (firstOf numbers tests ≡ firstOf (drop i numbers) (drop i tests))

@@ -1,7 +1,7 @@
--- `host::write_on` meets its contract. Assumes nothing.
+-- `answers::write_on` meets its contract. Assumes nothing.
 use borrow.Author.Needs.{needs}
-use Rattle.host.proofs.write_on.Statement.{statement}
-use Rattle.host.proofs.write_on.Tie as tie
+use Rattle.answers.proofs.write_on.Statement.{statement}
+use Rattle.answers.proofs.write_on.Tie as tie
 
 write-requires : tie.Need-write-requires
 write-requires c κs = search needs

@@ -1,9 +1,9 @@
--- `host::run_on` meets its contract. Assumes nothing.
+-- `answers::run_on` meets its contract. Assumes nothing.
 use native.Mathlib.Omega.{arith}
 use borrow.Author.Needs.{needs}
-use Rattle.host.proofs.Lengths.{rest-fits, replayed}
-use Rattle.host.proofs.run_on.Statement.{statement}
-use Rattle.host.proofs.run_on.Tie as tie
+use Rattle.answers.proofs.Runs.{rest-fits, replayed}
+use Rattle.answers.proofs.run_on.Statement.{statement}
+use Rattle.answers.proofs.run_on.Tie as tie
 
 run-requires : tie.Need-run-requires
 run-requires c κs = search needs

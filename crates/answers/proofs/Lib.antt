@@ -1,0 +1,2 @@
+-- The laws of a run's answer.
+pub mod Runs

@@ -1,0 +1,2 @@
+-- What the crate `answers` means.
+pub mod Answers

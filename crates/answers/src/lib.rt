@@ -1,0 +1,76 @@
+// A write and a run as a C program gives and gets them, on a card by value. The crate `host` takes the card out of the program's memory,
+// calls one of these, and stores the next card in place.
+ghost use Rattle.answers.specs.Answers.{writeOf, Wrote, Replayed};
+use card::Card;
+use card::Write;
+
+// The size of a trace's entry.
+const ENTRY: u32 = format::ENTRY as u32;
+
+// What a write answers: its number and the pixels enabled.
+#[repr(C)]
+pub struct Answer {
+    pub number: u32,
+    pub count: u32,
+}
+
+// What a run answers: the number, the entries applied, the total pixels, and where the unread part begins.
+#[repr(C)]
+pub struct Ran {
+    pub number: u32,
+    pub entries: u32,
+    pub pixels: u32,
+    pub rest: u32,
+}
+
+pub struct Written {
+    pub card: Card,
+    pub answer: Answer,
+}
+
+pub struct Run {
+    pub card: Card,
+    pub ran: Ran,
+}
+
+// One write, given as its four numbers.
+pub fn write_on(
+    card: Card,
+    space: u8,
+    lanes: u8,
+    address: u32,
+    word: u32,
+    vram: &mut [u8],
+) -> Written
+    ensures { λ r. ⌜ Wrote card (writeOf space lanes address word) (now (vram .entry)) (r .answer) (r .card) (now (vram .exit)) ⌝ }
+{
+    let w = Write {
+        space,
+        lanes,
+        address,
+        data: word,
+    };
+    let a = engine::write(card, w, vram);
+    let next = a.card;
+    let answer = Answer {
+        number: a.number,
+        count: a.tally.enabled,
+    };
+    Written { card: next, answer }
+}
+
+// A run, with the offset of what it left unread.
+pub fn run_on(card: Card, part: &[u8], vram: &mut [u8], budget: u32) -> Run
+    ensures { λ r. ⌜ Replayed (now (part .entry)) budget card (now (vram .entry)) (r .ran) (r .card) (now (vram .exit)) ⌝ }
+{
+    let t = trace::run(part, card, vram, budget);
+    let rest = ENTRY * t.applied;
+    let next = t.card;
+    let ran = Ran {
+        number: t.number,
+        entries: t.applied,
+        pixels: t.pixels,
+        rest,
+    };
+    Run { card: next, ran }
+}
