@@ -23,11 +23,13 @@ pub struct Ran {
     pub rest: u32,
 }
 
+// The next card, and what a write answers.
 pub struct Written {
     pub card: Card,
     pub answer: Answer,
 }
 
+// The card after, and what a run answers.
 pub struct Run {
     pub card: Card,
     pub ran: Ran,

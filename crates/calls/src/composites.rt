@@ -1,6 +1,6 @@
 // One pixel and the composites of the raster operations, beside the scope paper's "How one pixel is made".
 ghost use Prim.Native.Nat.{_≤_};
-use crate::counting::with;
+use crate::right::with;
 
 // The new bit for source bit s and old bit d: bit (3 - 2s - d) of the operation.
 fn new_bit(op: u8, s: u8, d: u8) -> u8
@@ -10,7 +10,7 @@ fn new_bit(op: u8, s: u8, d: u8) -> u8
     (op >> (3 - 2 * s - d)) % 2
 }
 
-// The bits that an operation gives for source and old bit 11, 10, 01 and 00, the first its highest.
+// The bits that an operation gives for source and old bit 11, 10, 01 and 00, from bit 3 of the answer down.
 fn four_bits(op: u8) -> u8
     ensures { λ r. ⌜ r ≤ 15 ⌝ }
 {

@@ -3,10 +3,10 @@
 use libc::STDOUT_FILENO;
 
 mod composites;
-mod counting;
 mod offsets;
 mod parts;
 mod readings;
+mod right;
 
 fn says(group: &[u8], right: u32, all: u32) {
     io::write_all(STDOUT_FILENO, group);
@@ -50,7 +50,7 @@ fn read_back() {
     says(b"read-back of bad lengths: ", parts::bad_length(), 7);
 }
 
-fn composed() {
+fn operations() {
     says(
         b"one pixel under every operation: ",
         composites::one_pixel(),
@@ -70,5 +70,5 @@ fn main() {
     registers();
     unlisted();
     read_back();
-    composed();
+    operations();
 }

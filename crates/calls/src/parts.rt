@@ -1,5 +1,5 @@
 // Read-back, beside the last paragraph of the scope paper's "Modes".
-use crate::counting::with;
+use crate::right::with;
 
 // 256 bytes of VRAM, no two alike.
 fn filled() -> [u8; 256] {

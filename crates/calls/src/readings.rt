@@ -1,6 +1,6 @@
 // Register reads, beside the scope paper's "Registers".
 ghost use Prim.Native.Nat.{_<_};
-use crate::counting::with;
+use crate::right::with;
 use card::Card;
 use card::Write;
 

@@ -1,2 +1,2 @@
--- What the crate `host` means: the entries for a host that keeps one card.
+-- What the crate `host` promises of its entries on a buffer.
 pub mod Buffers

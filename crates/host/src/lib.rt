@@ -1,5 +1,6 @@
 // What a C program needs: the card stands in its memory, and each entry changes it there.
-// include/zevkholtai.h declares these functions; what each means stands in specs/.
+// include/zevkholtai.h declares these functions. What the entries on a card mean stands in the crates `card` (reset) and `answers`, what those on a
+// buffer mean in specs/Buffers.antt.
 ghost use mathlib.Core.Path.{_≡_};
 ghost use Rattle.card.specs.Reset.{resetCard};
 ghost use Rattle.answers.specs.Answers.{writeOf, Wrote, Replayed};
