@@ -14,24 +14,18 @@ use plan::Plan;
 use span::Strokes;
 
 // The 32 bytes whose byte j mod 32 pixel j takes. The whole copy buffer is drawn in halves.
-fn sources(p: Paint, card: Card) -> [u8; 32]
-    ensures { λ r. ⌜ (isWhole p ≡ false → (j : ℕ) → getD r (j % 32) 0 ≡ takenBy p card j) ⌝ }
+fn sources(p: Paint, buffer: [u8; 64]) -> [u8; 32]
+    ensures { λ r. ⌜ (isWhole p ≡ false → (j : ℕ) → getD r (j % 32) 0 ≡ takenBy p buffer j) ⌝ }
 {
     match p {
-        Paint::Words {
-            pick,
-            ink,
-            paper,
+        Paint::Stippled {
+            bits,
+            foreground,
+            background,
             at,
-        } => pattern::words(pick, ink, paper, at),
-        Paint::Colours { at } => {
-            let registers = card.registers;
-            pattern::colours(registers.block[0], registers.block[1], at)
-        }
-        Paint::Half => {
-            let buffer = card.copier.buffer;
-            pattern::half(buffer, 0)
-        }
+        } => pattern::stippled(bits, foreground, background, at),
+        Paint::Tiled { low, high, at } => pattern::tiled(low, high, at),
+        Paint::Half => pattern::half(buffer, 0),
         Paint::Whole => [0u8; 32],
     }
 }
@@ -42,7 +36,8 @@ pub(crate) fn strokes(p: Plan, card: Card) -> Strokes
     ensures { λ r. ⌜ Draws r (p .op) (effective card) (planned p card) ⌝ }
 {
     let paint = p.paint;
-    let source = sources(paint, card);
+    let buffer = card.copier.buffer;
+    let source = sources(paint, buffer);
     let mask = pattern::masks(card.registers.plane, card.held);
     let phase = (p.first % 4) as u32;
     Strokes {

@@ -45,7 +45,7 @@ fn two_words(a: u32, b: u32) -> [u8; 8]
 }
 
 // x where b holds, else y.
-pub(crate) fn either(b: bool, x: u8, y: u8) -> u8
+fn either(b: bool, x: u8, y: u8) -> u8
     ensures { λ r. ⌜ r ≡ cond b x y ⌝ }
 {
     if b { x } else { y }
@@ -66,15 +66,15 @@ fn choose(pick: u32, on: [u8; 8], off: [u8; 8], phase: usize) -> [u8; 32]
     source
 }
 
-// Pixel k takes byte (its address mod 4) of x where bit k of `pick` is set, else of y.
-pub(crate) fn words(pick: u32, x: u32, y: u32, phase: usize) -> [u8; 32]
-    ensures { λ r. ⌜ r ≡ listed 32 (λ k. cond (bit pick k) (byte x ((phase + k) % 4)) (byte y ((phase + k) % 4))) ⌝ }
+// Pixel k takes byte (its address mod 4) of x where bit k is set, else of y.
+pub(crate) fn stippled(bits: u32, x: u32, y: u32, phase: usize) -> [u8; 32]
+    ensures { λ r. ⌜ r ≡ listed 32 (λ k. cond (bit bits k) (byte x ((phase + k) % 4)) (byte y ((phase + k) % 4))) ⌝ }
 {
-    choose(pick, two_words(x, x), two_words(y, y), phase)
+    choose(bits, two_words(x, x), two_words(y, y), phase)
 }
 
-// Pixel k takes byte (its address mod 8) of the two colours.
-pub(crate) fn colours(a: u32, b: u32, phase: usize) -> [u8; 32]
+// Pixel k takes byte (its address mod 8) of the two words.
+pub(crate) fn tiled(a: u32, b: u32, phase: usize) -> [u8; 32]
     ensures { λ r. ⌜ r ≡ listed 32 (λ k. byte (getD (a ∷ b ∷ []) ((phase + k) % 8 / 4) 0) ((phase + k) % 4)) ⌝ }
 {
     let both = two_words(a, b);

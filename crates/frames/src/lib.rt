@@ -2,7 +2,7 @@
 ghost use mathlib.Core.Path.{_≡_};
 ghost use Rattle.rules.specs.Modes.{modeOf};
 ghost use Rattle.plan.specs.Plan.{framePlan, drawingPlan, copyPlan, halvedPlan};
-ghost use Rattle.plan.specs.declared.Paint.the-variants.{Words};
+ghost use Rattle.plan.specs.declared.Paint.the-variants.{Stippled, Tiled};
 use bounds::ALL_LANES;
 use card::CLEAR;
 use card::Card;
@@ -24,8 +24,8 @@ pub fn plan(card: Card, w: Write) -> Plan
 {
     let registers = card.registers;
     let m = modes::mode_of(registers.mode);
-    let ink = registers.foreground;
-    let paper = registers.background;
+    let foreground = registers.foreground;
+    let background = registers.background;
     let fill = registers.fill;
     let op = (registers.raster % 16) as u8;
     let pixels = card.mask.bits;
@@ -46,31 +46,31 @@ pub fn plan(card: Card, w: Write) -> Plan
             let mut faults = faults;
             faults.lanes = false;
             let enable = w.lanes as u32 & pixels;
-            let paint = words(ONES, data, 0, 0);
+            let paint = tile(data, data, 0);
             drawing(faults, address, 4, op, enable, paint)
         }
         Mode::OpaqueStipple => {
-            let paint = words(data, ink, paper, address);
+            let paint = stipple(data, foreground, background, address);
             drawing(faults, address, 32, op, pixels, paint)
         }
         Mode::TransparentStipple => {
-            let paint = words(ONES, ink, 0, address);
+            let paint = tile(foreground, foreground, address);
             drawing(faults, address, 32, op, data, paint)
         }
         Mode::OpaqueFill => {
-            let paint = words(fill, ink, paper, first);
+            let paint = stipple(fill, foreground, background, first);
             drawing(faults, first, width, op, ONES, paint)
         }
         Mode::TransparentFill => {
-            let paint = words(ONES, ink, 0, first);
+            let paint = tile(foreground, foreground, first);
             drawing(faults, first, width, op, fill, paint)
         }
         Mode::BlockStipple => {
-            let paint = Paint::Colours { at: address };
+            let paint = tile(registers.block[0], registers.block[1], address);
             drawing(faults, address, 32, COPY, data, paint)
         }
         Mode::BlockFill => {
-            let paint = Paint::Colours { at: first };
+            let paint = tile(registers.block[0], registers.block[1], first);
             drawing(faults, first, width, COPY, fill, paint)
         }
         Mode::Copy => of_copy(faults, card.copier.writing, w, op),
@@ -97,15 +97,21 @@ fn drawing(faults: Faults, first: usize, width: u32, op: u8, enable: u32, paint:
     }
 }
 
-fn words(pick: u32, ink: u32, paper: u32, at: usize) -> Paint
-    ensures { λ r. ⌜ r ≡ Words pick ink paper at ⌝ }
+fn stipple(bits: u32, foreground: u32, background: u32, at: usize) -> Paint
+    ensures { λ r. ⌜ r ≡ Stippled bits foreground background at ⌝ }
 {
-    Paint::Words {
-        pick,
-        ink,
-        paper,
+    Paint::Stippled {
+        bits,
+        foreground,
+        background,
         at,
     }
+}
+
+fn tile(low: u32, high: u32, at: usize) -> Paint
+    ensures { λ r. ⌜ r ≡ Tiled low high at ⌝ }
+{
+    Paint::Tiled { low, high, at }
 }
 
 // Of a frame write in copy mode, whose halves alternate.

@@ -2,7 +2,7 @@
 use mathlib.Core.Path.{_≡_, refl, ap, ap₂, sym, _∙_}
 use mathlib.Core.Bool.{Bool, true, false, cond, _&&_, false≢true}
 use mathlib.Core.List.{List, [], _∷_, map}
-use Prim.Native.Nat.{ℕ, _+_, _%_, _<_}
+use Prim.Native.Nat.{ℕ, zero, suc, _+_, _/_, _%_, _<_}
 use native.Mathlib.Nat.{not-suc-le-zero}
 use native.Mathlib.Omega.{arith}
 use lib.Bits.{bitAnd}
@@ -34,9 +34,25 @@ gate : (b : Bool) (x j : ℕ) → j < 32 → bit (cond b x 0) (j % 32) ≡ b && 
 gate true x j h = first-turn x j h
 gate false x j h = bit-zeros (j % 32)
 
--- a word of ones always picks the ink
-inked : (x y j : ℕ) → cond (bit 4294967295 (j % 32)) x y ≡ x
-inked x y j = ap (λ (b : Bool). cond b x y) (bit-word j)
+-- the two words of a tile as the block colours have them, and as one word twice
+blocked : (block : List ℕ) (t : ℕ) → t < 2 → getD (getD block 0 0 ∷ getD block 1 0 ∷ []) t 0 ≡ getD block t 0
+blocked block zero h = refl
+blocked block (suc zero) h = refl
+blocked block (suc (suc t)) h = absurd (omega arith)
+
+pub twice : (x t : ℕ) → t < 2 → getD (x ∷ x ∷ []) t 0 ≡ x
+twice x zero h = refl
+twice x (suc zero) h = refl
+twice x (suc (suc t)) h = absurd (omega arith)
+
+half-of : (p : ℕ) → p % 8 / 4 < 2
+half-of p = omega arith
+
+tiled-blocks : (block : List ℕ) (p : ℕ) → byte (getD (getD block 0 0 ∷ getD block 1 0 ∷ []) (p % 8 / 4) 0) (p % 4) ≡ byte (getD block (p % 8 / 4) 0) (p % 4)
+tiled-blocks block p = ap (λ (x : ℕ). byte x (p % 4)) (blocked block (p % 8 / 4) (half-of p))
+
+tiled-solid : (x p : ℕ) → byte (getD (x ∷ x ∷ []) (p % 8 / 4) 0) (p % 4) ≡ byte x (p % 4)
+tiled-solid x p = ap (λ (y : ℕ). byte y (p % 4)) (twice x (p % 8 / 4) (half-of p))
 
 module _ (c : Card) (w : Write) where
   -- a frame write: mode by mode
@@ -54,13 +70,13 @@ module _ (c : Card) (w : Write) where
 
   plan-takes : (m : Mode) (j : ℕ) → j < frameSpan m c w .width → planned (framePlan m c w) c .takes j ≡ frameSpan m c w .takes j
   unfolding frameSpan
-  plan-takes Simple j h = let e : (0 + j) % 4 ≡ j = omega arith in inked _ _ j ∙ ap (λ (t : ℕ). byte (w .«data») t) e
+  plan-takes Simple j h = let e : (0 + j) % 4 ≡ j = omega arith in tiled-solid (w .«data») (0 + j) ∙ ap (λ (t : ℕ). byte (w .«data») t) e
   plan-takes OpaqueStipple j h = ap (λ (b : Bool). cond b (foreground c (w .address + j)) (background c (w .address + j))) (first-turn _ j h)
-  plan-takes TransparentStipple j h = inked _ _ j
+  plan-takes TransparentStipple j h = tiled-solid (c .registers .foreground) _
   plan-takes OpaqueFill j h = refl
-  plan-takes TransparentFill j h = inked _ _ j
-  plan-takes BlockStipple j h = refl
-  plan-takes BlockFill j h = refl
+  plan-takes TransparentFill j h = tiled-solid (c .registers .foreground) _
+  plan-takes BlockStipple j h = tiled-blocks (c .registers .block) _
+  plan-takes BlockFill j h = tiled-blocks (c .registers .block) _
   plan-takes Copy j h = let e : j % 32 ≡ j = omega arith in ap (λ (t : ℕ). getD (c .copier .buffer) t 0) e
   plan-takes Unlisted j h = absurd (not-suc-le-zero h)
 

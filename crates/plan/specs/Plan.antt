@@ -16,7 +16,7 @@ use Rattle.card.specs.declared.Copier.{Copier}
 use Rattle.card.specs.declared.Write.{Write}
 use Rattle.card.specs.declared.Register.{Register}
 use Rattle.card.specs.declared.Register.the-variants.{Mode as ModeRegister, RasterOperation, PixelShift, CopySource, CopyDestination, Missing}
-use Rattle.rules.specs.Modes.{modeOf, unlisted, isSimple, isBlock, isCopy, colour, fillFirst, frameSpan, registerOf}
+use Rattle.rules.specs.Modes.{modeOf, unlisted, isSimple, isBlock, isCopy, fillFirst, frameSpan, registerOf}
 use Rattle.rules.specs.Refusal.{badLength, badSpace, firstHolding}
 use Rattle.rules.specs.Writes.{usedUp, sourced}
 use Rattle.rules.specs.declared.Mode.{Mode}
@@ -25,7 +25,7 @@ use Rattle.plan.specs.declared.Effect.{Effect}
 use Rattle.plan.specs.declared.Effect.the-variants.{UsesMask, ReadsSource, DrawsDestination, Stores, Loads, Unloads}
 use Rattle.plan.specs.declared.Faults.{Faults}
 use Rattle.plan.specs.declared.Paint.{Paint}
-use Rattle.plan.specs.declared.Paint.the-variants.{Words, Colours, Half, Whole}
+use Rattle.plan.specs.declared.Paint.the-variants.{Stippled, Tiled, Half, Whole}
 use Rattle.plan.specs.declared.Plan.{Plan}
 
 abbrev ones : ℕ
@@ -67,14 +67,21 @@ enableOf BlockFill c w = c .registers .fill
 enableOf Copy c w = cond (isSet (c .copier .writing)) (w .«data») 0
 enableOf Unlisted c w = 0
 
+-- one word for all pixels, and block colours 0 and 1
+abbrev pub solid : ℕ → ℕ → Paint
+solid x at = Tiled x x at
+
+abbrev pub blocks : Card → ℕ → Paint
+blocks c at = Tiled (getD (c .registers .block) 0 0) (getD (c .registers .block) 1 0) at
+
 abbrev pub paintOf : Mode → Card → Write → Paint
-paintOf Simple c w = Words ones (w .«data») 0 0
-paintOf OpaqueStipple c w = Words (w .«data») (c .registers .foreground) (c .registers .background) (w .address)
-paintOf TransparentStipple c w = Words ones (c .registers .foreground) 0 (w .address)
-paintOf OpaqueFill c w = Words (c .registers .fill) (c .registers .foreground) (c .registers .background) (fillFirst w)
-paintOf TransparentFill c w = Words ones (c .registers .foreground) 0 (fillFirst w)
-paintOf BlockStipple c w = Colours (w .address)
-paintOf BlockFill c w = Colours (fillFirst w)
+paintOf Simple c w = solid (w .«data») 0
+paintOf OpaqueStipple c w = Stippled (w .«data») (c .registers .foreground) (c .registers .background) (w .address)
+paintOf TransparentStipple c w = solid (c .registers .foreground) (w .address)
+paintOf OpaqueFill c w = Stippled (c .registers .fill) (c .registers .foreground) (c .registers .background) (fillFirst w)
+paintOf TransparentFill c w = solid (c .registers .foreground) (fillFirst w)
+paintOf BlockStipple c w = blocks c (w .address)
+paintOf BlockFill c w = blocks c (fillFirst w)
 paintOf Copy c w = Half
 paintOf Unlisted c w = Half
 
@@ -171,21 +178,22 @@ firstOf (k ∷ ks) (b ∷ bs) = cond b k (firstOf ks bs)
 
 -- the whole copy buffer is taken
 abbrev pub isWhole : Paint → Bool
-isWhole (Words pick ink paper at) = false
-isWhole (Colours at) = false
+isWhole (Stippled bits foreground background at) = false
+isWhole (Tiled low high at) = false
 isWhole Half = false
 isWhole Whole = true
 
--- what pixel j takes
-abbrev pub takenBy : Paint → Card → ℕ → ℕ
-takenBy (Words pick ink paper at) c j = cond (bit pick (j % 32)) (byte ink ((at + j) % 4)) (byte paper ((at + j) % 4))
-takenBy (Colours at) c j = colour c (at + j)
-takenBy Half c j = getD (c .copier .buffer) (j % 32) 0
-takenBy Whole c j = getD (c .copier .buffer) j 0
+-- what pixel j takes, with this copy buffer
+abbrev pub takenBy : Paint → List ℕ → ℕ → ℕ
+takenBy (Stippled bits foreground background at) buffer j =
+    cond (bit bits (j % 32)) (byte foreground ((at + j) % 4)) (byte background ((at + j) % 4))
+takenBy (Tiled low high at) buffer j = byte (getD (low ∷ high ∷ []) ((at + j) % 8 / 4) 0) ((at + j) % 4)
+takenBy Half buffer j = getD buffer (j % 32) 0
+takenBy Whole buffer j = getD buffer j 0
 
 -- the span that a plan draws
 abbrev pub planned : Plan → Card → Span
-planned p c = span (p .first) (p .width) (λ j. bit (p .enable) (j % 32)) (takenBy (p .paint) c)
+planned p c = span (p .first) (p .width) (λ j. bit (p .enable) (j % 32)) (takenBy (p .paint) (c .copier .buffer))
 
 -- it can be drawn in n bytes: the span lies inside, and the whole copy buffer is 64 pixels
 unfoldable pub drawable : Plan → ℕ → Bool

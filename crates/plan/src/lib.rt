@@ -6,15 +6,17 @@ pub const LAST_OPERATION: u32 = 15;
 
 // What the pixels of a span take. `at` is the address of the first, for the bytes that go by address.
 pub enum Paint {
-    // ink where bit j mod 32 of pick is set, else paper
-    Words {
-        pick: u32,
-        ink: u32,
-        paper: u32,
+    // foreground where bit j mod 32 is set, else background: of each the byte of the address mod 4
+    Stippled {
+        bits: u32,
+        foreground: u32,
+        background: u32,
         at: usize,
     },
-    // block colours 0 and 1
-    Colours {
+    // two words side by side, low first: the byte of the address mod 8
+    Tiled {
+        low: u32,
+        high: u32,
         at: usize,
     },
     // the copy buffer's first 32 bytes, or all 64

@@ -27,7 +27,7 @@ returns c =
     let q = c .before .before .before .before .pre in
     draws _ _ (effective (a .card)) (piece (a .k) 32 (planned (a .p) (a .card))) refl refl (omega (arith, q)) (c .before .masks .ensures)
     (λ j h. let e : j % 32 ≡ (a .k + j) % 32 = omega (arith, q) in ap (λ (i : ℕ). bit (a .p .enable) i) e)
-    (λ j h. half-at (a .card .copier .buffer) (a .k) (c .before .before .half .ensures) j h ∙ sym (whole-takes (a .p .paint) (a .card) (a .k + j) (q .0)))
+    (λ j h. half-at (a .card .copier .buffer) (a .k) (c .before .before .half .ensures) j h ∙ sym (whole-takes (a .p .paint) (a .card .copier .buffer) (a .k + j) (q .0)))
 
 pub half-strokes-spec : {M : Type 1} → statement M
 half-strokes-spec = tie.close (tie.spec half-requires masks-requires cast-phase returns)

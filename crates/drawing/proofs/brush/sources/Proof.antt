@@ -1,7 +1,7 @@
 -- `drawing::brush::sources` meets its contract: each arm is the definition at that paint. Assumes nothing.
 use mathlib.Core.Path.{refl, sym}
 use mathlib.Core.Bool.{false≢true}
-use Rattle.drawing.proofs.Sources.{words-at, colours-at, first-half-at}
+use Rattle.drawing.proofs.Sources.{stippled-at, tiled-at, first-half-at}
 use borrow.Author.Needs.{needs}
 use Rattle.drawing.proofs.brush.sources.Statement.{statement}
 use Rattle.drawing.proofs.brush.sources.Tie as tie
@@ -9,20 +9,14 @@ use Rattle.drawing.proofs.brush.sources.Tie as tie
 enum-known-p : tie.Need-enum-known-p
 enum-known-p c = search needs
 
-words-requires : tie.Need-words-requires
-words-requires c κs = search needs
+stippled-requires : tie.Need-stippled-requires
+stippled-requires c κs = search needs
 
 enum-known-p-2 : tie.Need-enum-known-p-2
 enum-known-p-2 c = search needs
 
-element-copy-out-colours : tie.Need-element-copy-out-colours
-element-copy-out-colours c = search needs
-
-element-copy-out-colours-2 : tie.Need-element-copy-out-colours-2
-element-copy-out-colours-2 c = search needs
-
-colours-requires : tie.Need-colours-requires
-colours-requires c κs = search needs
+tiled-requires : tie.Need-tiled-requires
+tiled-requires c κs = search needs
 
 enum-told : tie.Need-enum-told
 enum-told c = search needs
@@ -34,13 +28,13 @@ enum-told-2 : tie.Need-enum-told-2
 enum-told-2 c = search needs
 
 returns : tie.Need-returns
-returns c = rw (c .before .before .p .given .1) (λ _. words-at _ _ _ _ _ (c .words .ensures) refl)
+returns c = rw (c .before .before .p .given .1) (λ _. stippled-at _ _ _ _ (c .stippled .ensures))
 
 returns-2 : tie.Need-returns-2
-returns-2 c = rw (c .before .before .before .before .before .p2 .given .1) (λ _. colours-at (c .before .before .before .before .before .before .before .args .card .registers .block) _ _ (c .colours .ensures) refl)
+returns-2 c = rw (c .before .before .p2 .given .1) (λ _. tiled-at _ _ _ (c .tiled .ensures))
 
 returns-3 : tie.Need-returns-3
-returns-3 c = rw (c .before .before .enum-told .given .1) (λ _. first-half-at (c .before .before .before .before .args .card .copier .buffer) (c .half .ensures))
+returns-3 c = rw (c .before .enum-told .given .1) (λ _. first-half-at (c .before .before .before .args .buffer) (c .half .ensures))
 
 returns-4 : tie.Need-returns-4
 returns-4 c = rw (c .enum-told2 .given .1) (λ e. absurd (false≢true (sym e)))
@@ -50,11 +44,9 @@ sources-spec =
     tie.close
     (tie.spec
     enum-known-p
-    words-requires
+    stippled-requires
     enum-known-p-2
-    element-copy-out-colours
-    element-copy-out-colours-2
-    colours-requires
+    tiled-requires
     enum-told
     half-requires
     enum-told-2
