@@ -3,9 +3,7 @@
 ghost use Rattle.answers.specs.Answers.{writeOf, Wrote, Replayed};
 use card::Card;
 use card::Write;
-
-// The size of a trace's entry.
-const ENTRY: u32 = format::ENTRY as u32;
+use format::STEP;
 
 // What a write answers: its number and the pixels enabled.
 #[repr(C)]
@@ -66,7 +64,7 @@ pub fn run_on(card: Card, part: &[u8], vram: &mut [u8], budget: u32) -> Run
     ensures { λ r. ⌜ Replayed (now (part .entry)) budget card (now (vram .entry)) (r .ran) (r .card) (now (vram .exit)) ⌝ }
 {
     let t = trace::run(part, card, vram, budget);
-    let rest = ENTRY * t.applied;
+    let rest = STEP * t.applied;
     let next = t.card;
     let ran = Ran {
         number: t.number,

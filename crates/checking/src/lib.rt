@@ -6,9 +6,7 @@ use entries::word_at;
 use format::ENTRY;
 use format::HEADER;
 use format::LARGEST;
-
-// The offset of the entries, as a word of the header.
-const OFFSET: u32 = HEADER as u32;
+use format::OFFSET;
 
 // The part is whole entries, not too many, with every pad byte zero.
 pub fn well_formed(part: &[u8]) -> bool

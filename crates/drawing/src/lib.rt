@@ -38,7 +38,7 @@ pub fn draw(p: Plan, card: Card, vram: &mut [u8]) -> Tally
     if drawable(p, vram.len()) {
         planned(p, card, vram)
     } else {
-        Tally { enabled: 0 }
+        Tally::NONE
     }
 }
 
@@ -48,7 +48,7 @@ fn planned(p: Plan, card: Card, vram: &mut [u8]) -> Tally
     ensures { λ r. ⌜ CarriedOut p card (now (vram .entry)) r (now (vram .exit)) ⌝ }
 {
     if p.enable == 0 {
-        return Tally { enabled: 0 };
+        return Tally::NONE;
     }
     let paint = p.paint;
     match paint {

@@ -34,7 +34,7 @@ pub fn write(card: Card, w: Write, vram: &mut [u8]) -> Answer
     let p = plan_of(card, w);
     let number = refusal::refuse(p, w, vram.len());
     if number != 0 {
-        let tally = Tally { enabled: 0 };
+        let tally = Tally::NONE;
         return Answer {
             number,
             tally,

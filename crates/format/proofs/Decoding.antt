@@ -10,7 +10,7 @@ use lib.ListN.{length, drop}
 use lib.Seq.{getD-drop}
 use borrow.Author.Tests.{ltb-false}
 use Rattle.card.specs.declared.Write.{Write}
-use Rattle.rules.specs.Refusal.{badLength}
+use Rattle.rules.specs.Refusal.{badLength, largestVram}
 use Rattle.format.specs.Bytes.{word, bytes}
 use Rattle.format.specs.Traces.{largest, Delivered, header, entry, entries, encoded, writeAt, writesAt, paddedAt, entryCount, writes, wellFormed, isTrace, trace, decoded}
 use Rattle.format.proofs.Bytes.{word-bytes, word-drop}
@@ -88,9 +88,9 @@ module _ (ws : List Write) (few : length ws ≤ largest) where
       ∙ writesAt-entries ws [] ds
 
 -- a VRAM length that number 1 does not refuse is small
-pub small : (n : ℕ) → badLength n ≡ false → n ≤ 2097152
+pub small : (n : ℕ) → badLength n ≡ false → n ≤ largestVram
 unfolding badLength
-small n e = ltb-false _ _ (neither (eqb n 0 || not (eqb (n % 64) 0)) (ltb 2097152 n) e)
+small n e = ltb-false _ _ (neither (eqb n 0 || not (eqb (n % 64) 0)) (ltb largestVram n) e)
   where
     neither : (a b : Bool) → a || b ≡ false → b ≡ false
     neither true b e = cc

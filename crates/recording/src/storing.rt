@@ -7,13 +7,8 @@ ghost use Rattle.format.specs.Traces.{headerSize, entrySize, header, entry};
 use crate::words::put_bytes;
 use crate::words::put_word;
 use card::Write;
-use format::ENTRY;
-use format::HEADER;
-
-// The same sizes as words of the header.
-const OFFSET: u32 = HEADER as u32;
-
-const STEP: u32 = ENTRY as u32;
+use format::OFFSET;
+use format::STEP;
 
 // The header of so many entries for a VRAM of `vram` bytes, stored at the front.
 pub(crate) fn put_header(b: &mut [u8], count: u32, vram: u32)

@@ -1,7 +1,8 @@
 -- The registers that have no rule of their own, which a `match` takes together. Assumes nothing.
 use mathlib.Core.Path.{_≡_, refl}
 use mathlib.Core.Bool.{false}
-use mathlib.Core.List.{[], _∷_}
+use mathlib.Core.List.{List, [], _∷_}
+use Prim.Native.Nat.{ℕ}
 use types.Run.{OneOf, miss}
 use denote.Enum.Declared.{tagOf}
 use Rattle.card.specs.Registers.{_is_}
@@ -14,18 +15,21 @@ Plain g =
     (g is Mode ≡ false) × (g is RasterOperation ≡ false) × (g is PixelShift ≡ false) × (g is CopySource ≡ false)
     × (g is CopyDestination ≡ false) × (g is Missing ≡ false)
 
--- one of the tags of the others
-pub plain : (g : Register) → OneOf (0 ∷ 1 ∷ 2 ∷ 3 ∷ 7 ∷ 8 ∷ 9 ∷ []) (tagOf R.the-type g) → Plain g
+-- their places among the variants
+abbrev others : List ℕ
+others = 0 ∷ 1 ∷ 2 ∷ 3 ∷ 7 ∷ 8 ∷ 9 ∷ []
+
+pub plain : (g : Register) → OneOf others (tagOf R.the-type g) → Plain g
 plain Foreground k = (refl, refl, refl, refl, refl, refl)
 plain Background k = (refl, refl, refl, refl, refl, refl)
 plain PlaneMask k = (refl, refl, refl, refl, refl, refl)
 plain PixelMaskOnce k = (refl, refl, refl, refl, refl, refl)
-plain Mode k = absurd (miss (0 ∷ 1 ∷ 2 ∷ 3 ∷ 7 ∷ 8 ∷ 9 ∷ []) 4 tt k)
-plain RasterOperation k = absurd (miss (0 ∷ 1 ∷ 2 ∷ 3 ∷ 7 ∷ 8 ∷ 9 ∷ []) 5 tt k)
-plain PixelShift k = absurd (miss (0 ∷ 1 ∷ 2 ∷ 3 ∷ 7 ∷ 8 ∷ 9 ∷ []) 6 tt k)
+plain Mode k = absurd (miss others 4 tt k)
+plain RasterOperation k = absurd (miss others 5 tt k)
+plain PixelShift k = absurd (miss others 6 tt k)
 plain PixelMask k = (refl, refl, refl, refl, refl, refl)
 plain FillMask k = (refl, refl, refl, refl, refl, refl)
 plain (BlockColour n) k = (refl, refl, refl, refl, refl, refl)
-plain CopySource k = absurd (miss (0 ∷ 1 ∷ 2 ∷ 3 ∷ 7 ∷ 8 ∷ 9 ∷ []) 10 tt k)
-plain CopyDestination k = absurd (miss (0 ∷ 1 ∷ 2 ∷ 3 ∷ 7 ∷ 8 ∷ 9 ∷ []) 11 tt k)
-plain Missing k = absurd (miss (0 ∷ 1 ∷ 2 ∷ 3 ∷ 7 ∷ 8 ∷ 9 ∷ []) 12 tt k)
+plain CopySource k = absurd (miss others 10 tt k)
+plain CopyDestination k = absurd (miss others 11 tt k)
+plain Missing k = absurd (miss others 12 tt k)

@@ -2,6 +2,7 @@
 use mathlib.Core.Path.{_≡_, refl}
 use mathlib.Core.Bool.{Bool, true, false, _&&_, _||_, false≢true}
 use mathlib.Core.List.{List, [], _∷_, map}
+use mathlib.Core.Logic.{_⊎_, inl, inr}
 use Prim.Native.Nat.{ℕ, zero, suc, _≤_, _<_}
 use native.Mathlib.Omega.{arith}
 use lib.Dec.{T, leb, ltb}
@@ -53,10 +54,31 @@ first-lowest ((k, true) ∷ rs) t (suc i) e = from-at k rs (left (from k rs) (ri
 first-lowest ((k, false) ∷ rs) t zero e = absurd (false≢true e)
 first-lowest ((k, false) ∷ rs) t (suc i) e = first-lowest rs (right (from k rs) (rise rs) t) i e
 
--- where several numbers apply, the lowest is returned: none of a test that holds is below it
-pub lowest : (c : Card) (w : Write) (n i : ℕ) → getD (rows c w n) i (0, false) .1 ≡ true → refusal c w n ≤ getD (rows c w n) i (0, false) .0
+-- k is the number of a row whose test holds
+abbrev pub Holds : List (ℕ × Bool) → ℕ → Type 0
+Holds [] k = ⊥
+Holds (r ∷ rs) k = ((r .0 ≡ k) × (r .1 ≡ true)) ⊎ Holds rs k
+
+first-holds : (rs : List (ℕ × Bool)) → (firstHolding rs ≡ 0 → ⊥) → Holds rs (firstHolding rs)
+first-holds [] h = h refl
+first-holds ((k, true) ∷ rs) h = inl (refl, refl)
+first-holds ((k, false) ∷ rs) h = inr (first-holds rs h)
+
+-- the lowest number that applies: that of a test that holds, and no test that holds has a lower one; 0 where none holds
+pub record Lowest (rs : List (ℕ × Bool)) (k : ℕ) : Type 0 where
+  pub none : k ≡ 0 → (i : ℕ) → getD rs i (0, false) .1 ≡ false
+  pub one : (k ≡ 0 → ⊥) → Holds rs k
+  pub least : (i : ℕ) → getD rs i (0, false) .1 ≡ true → k ≤ getD rs i (0, false) .0
+
+-- where several numbers apply, the lowest is returned
+pub lowest : (c : Card) (w : Write) (n : ℕ) → Lowest (rows c w n) (refusal c w n)
 unfolding refusal
-lowest c w n i e = first-lowest (rows c w n) tt i e
+lowest c w n =
+    record {
+      none = accepted-passed c w n;
+      one = first-holds (rows c w n);
+      least = first-lowest (rows c w n) tt;
+    }
 
 first-false : (a b : Bool) → a || b ≡ false → a ≡ false
 first-false true b e = e

@@ -99,11 +99,12 @@ module _ (op : ℕ) (mask : ℕ → ℕ) (s : Span) (k n : ℕ) (e : k + n ≡ s
           join i x (spanned-past mask (piece k n s) i (omega arith)) (spanned-past mask (piece 0 k s) i (omega arith))
           (spanned-past mask s i (omega arith)) refl
 
-  pub cut-counts : enabledIn (piece 0 k s) + enabledIn (piece k n s) ≡ enabledIn s
-  cut-counts =
-      let z : (j : ℕ) → 0 + j ≡ j = λ j. omega arith in
-      ap (λ (a : ℕ). a + enabledIn (piece k n s)) (counted-same k (λ j h. ap (s .on) (z j)))
-      ∙ (sym (counted-append k n (s .on)) ∙ ap (λ (a : ℕ). counted a (s .on)) e)
+-- and so are their counts
+pub cut-counts : (s : Span) (k n : ℕ) → k + n ≡ s .width → enabledIn (piece 0 k s) + enabledIn (piece k n s) ≡ enabledIn s
+cut-counts s k n e =
+    let z : (j : ℕ) → 0 + j ≡ j = λ j. omega arith in
+    ap (λ (a : ℕ). a + enabledIn (piece k n s)) (counted-same k (λ j h. ap (s .on) (z j)))
+    ∙ (sym (counted-append k n (s .on)) ∙ ap (λ (a : ℕ). counted a (s .on)) e)
 
 by-four : (phase first j : ℕ) → phase ≡ first % 4 → (phase + j) % 4 ≡ (first + j) % 4
 by-four phase first j h = omega arith

@@ -15,3 +15,8 @@ pub struct Strokes {
 pub struct Tally {
     pub enabled: u32,
 }
+
+impl Tally {
+    // Of nothing drawn.
+    pub const NONE: Tally = Tally { enabled: 0 };
+}

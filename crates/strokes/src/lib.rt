@@ -38,7 +38,7 @@ pub fn draw_at(vram: &mut [u8], first: usize, s: Strokes) -> Tally
     ensures { λ r. ⌜ Drew s first (now (vram .entry)) r (now (vram .exit)) ⌝ }
 {
     if vram.len() < first {
-        return Tally { enabled: 0 };
+        return Tally::NONE;
     }
     draw(&mut vram[first..], s)
 }

@@ -18,7 +18,7 @@ use Rattle.rules.specs.Sequences.{cardAfter, pictureAfter}
 use Rattle.demands.proofs.Counting.{count-bound}
 use Rattle.demands.proofs.Demand1.{answered}
 use Rattle.demands.proofs.Demand2.{held-through, held-chosen}
-use Rattle.format.specs.Traces.{largest, entryCount, writes, wellFormed}
+use Rattle.format.specs.Traces.{largest, entrySize, entryCount, writes, wellFormed}
 use Rattle.format.proofs.Tested.{Formed, formed}
 use Rattle.format.proofs.Encoding.{length-writes}
 use Rattle.trace.specs.Run.{State, nothing, apply, refuse, ran, run, unread}
@@ -57,7 +57,7 @@ runs-number z (refused {w = w} {s = s} n) = answered (s .card) w (length (s .pic
 runs-number z (applied e p) = runs-number refl p
 
 -- how a run ends: the budget or the entries ended, or the first entry that is left was refused, and its number is the answer
-pub data Ended (b n : ℕ) (left : List Write) (k : ℕ) (r : State) : Type 0 where
+data Ended (b n : ℕ) (left : List Write) (k : ℕ) (r : State) : Type 0 where
   budget-ends : r .number ≡ 0 → k ≡ b → Ended b n left k r
   entries-end : r .number ≡ 0 → k ≡ n → Ended b n left k r
   refuses : {w : Write} {rest : List Write} → left ≡ w ∷ rest → r .number ≡ refusal (r .card) w (length (r .picture)) → (r .number ≡ 0 → ⊥) → Ended b n left k r
@@ -80,7 +80,7 @@ pub record Outcome (part : List ℕ) (b : ℕ) (c : Card) (v : List ℕ) (s : St
   pub number : s .number ≤ 10
   -- never above the budget, the part or the largest number
   pub within-budget : s .applied ≤ b
-  pub within-part : 12 * s .applied ≤ length part
+  pub within-part : entrySize * s .applied ≤ length part
   pub within-largest : s .applied ≤ largest
   -- the total never exceeds 8,388,608
   pub total : s .pixels ≤ 8388608
@@ -108,13 +108,13 @@ pub data Stops (part : List ℕ) (b : ℕ) (s : State) (u : List ℕ) : Type 0 w
   -- where the part ends: u is empty
   at-end : s .number ≡ 0 → u ≡ [] → Stops part b s u
   -- where the budget ends: u is the rest
-  at-budget : s .number ≡ 0 → s .applied ≡ b → u ≡ drop (12 * b) part → Stops part b s u
+  at-budget : s .number ≡ 0 → s .applied ≡ b → u ≡ drop (entrySize * b) part → Stops part b s u
 
 -- the part u that the scope paper's run, which ends at s, hands back as unread
 pub record UnreadPart (part : List ℕ) (b : ℕ) (c : Card) (v : List ℕ) (s : State) (u : List ℕ) : Type 0 where
-  -- the part without its first `applied` entries, 12 bytes each; it has so many
-  pub within : 12 * s .applied ≤ length part
-  pub rest : u ≡ drop (12 * s .applied) part
+  -- the part without its first `applied` entries; it has so many
+  pub within : entrySize * s .applied ≤ length part
+  pub rest : u ≡ drop (entrySize * s .applied) part
   -- where check 10 or 1 fails at the start: nothing is drawn, and u is the whole part
   pub whole-at-10 : wellFormed part ≡ false → (s ≡ nothing 10 c v) × (u ≡ part)
   pub whole-at-1 : wellFormed part ≡ true → badLength (length v) ≡ true → (s ≡ nothing 1 c v) × (u ≡ part)
@@ -147,7 +147,7 @@ module _ (part : List ℕ) (b : ℕ) (c : Card) (v : List ℕ) where
       go true false d e = rw (run-good part b c v d e) (drawn (formed part d))
 
   -- where the checks 10 and 1 pass, how it ends; the unread part begins at the refused entry
-  pub ended : wellFormed part ≡ true → badLength (length v) ≡ false
+  ended : wellFormed part ≡ true → badLength (length v) ≡ false
       → Ended b (entryCount part) (writes (unread part (run part b c v .applied))) (run part b c v .applied) (run part b c v)
   unfolding ran
   ended d e =
@@ -177,11 +177,11 @@ module _ (part : List ℕ) (b : ℕ) (c : Card) (v : List ℕ) where
       u = unread part (s .applied)
 
       all : {n : ℕ} → s ≡ nothing n c v → u ≡ part
-      all e = ap (λ (r : State). drop (12 * r .applied) part) e
+      all e = ap (λ (r : State). drop (entrySize * r .applied) part) e
 
       by-end : Formed part → Ended b (entryCount part) (writes u) (s .applied) s → Stops part b s u
-      by-end f (budget-ends z k) = at-budget z k (ap (λ (n : ℕ). drop (12 * n) part) k)
-      by-end f (entries-end z k) = at-end z (drop-of-length-le part {i = 12 * s .applied} (omega (arith, f .whole)))
+      by-end f (budget-ends z k) = at-budget z k (ap (λ (n : ℕ). drop (entrySize * n) part) k)
+      by-end f (entries-end z k) = at-end z (drop-of-length-le part {i = entrySize * s .applied} (omega (arith, f .whole)))
       by-end f (refuses l e n) = at-refused l e n
 
   -- demand 2: every bit of a held plane is as it was

@@ -70,7 +70,7 @@ returns c =
     let h = halves c in
     record {
       shows = h .0 ∙ cut-shows (a .p .op) m P 32 32 e (now (a .vram));
-      counts = ap₂ (λ (x y : ℕ). x + y) (h .2) (h .3) ∙ cut-counts (a .p .op) m P 32 32 e;
+      counts = ap₂ (λ (x y : ℕ). x + y) (h .2) (h .3) ∙ cut-counts P 32 32 e;
     }
 
 pub halves-spec : {M : Type 1} → statement M
