@@ -98,6 +98,17 @@ S10 =
 abbrev pub S11 : Type 0
 S11 = answers [] (reg 0x0164 0) ≡ 9
 
-pub samples : S1 × S2 × S3 × S4 × S5 × S6 × S7 × S8 × S9 × S10 × S11
+-- beside the paper's samples, for its slip: a copy whose destination overlaps its source draws the pixels as they were read
+abbrev pub Overlap : Type 0
+Overlap =
+    pictureAfter (copying ++ (frame 0 0xFFFFFFFF ∷ frame 8 0xFFFFFFFF ∷ [])) (resetCard 0) ramp ≡ listed 8 (λ i. i) ++ (listed 32 (λ i. i) ++ zeros 24)
+
+computed : (S1 × S2 × S3 × S4 × S5 × S6 × S7 × S8 × S9 × S10 × S11) × Overlap
 unfolding cardAfter pictureAfter refusal badLength badSpace badLanes noRegister badMode badRaster offBoundary outside unloaded modeOf frameSpan spansOf spanned effectiveBy count operation layers picture sourced afterFrame afterRegister next resetCard rowAt rowIn table stores byte from before drawn drawnAll counted listed made number result bit
-samples = ((refl, refl), (refl, refl), refl, (refl, refl), refl, (refl, refl), refl, (refl, refl), s9, (refl, refl, refl), refl)
+computed = (((refl, refl), (refl, refl), refl, (refl, refl), refl, (refl, refl), refl, (refl, refl), s9, (refl, refl, refl), refl), refl)
+
+pub samples : S1 × S2 × S3 × S4 × S5 × S6 × S7 × S8 × S9 × S10 × S11
+samples = computed .0
+
+pub overlap : Overlap
+overlap = computed .1
