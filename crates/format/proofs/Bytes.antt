@@ -1,4 +1,4 @@
--- Little-endian numbers in a list of bytes, over any list and offset. Assumes nothing.
+-- Little-endian numbers in a list of bytes, over any list and offset. `bytes-word` assumes a list of bytes (`Bytes`).
 use mathlib.Core.Path.{_≡_, refl, ap, sym, _∙_, subst}
 use mathlib.Core.List.{List, [], _∷_, _++_}
 use Prim.Native.Nat.{ℕ, _+_, _*_, _/_, _%_, _^_, _≤_, _<_}

@@ -1,4 +1,4 @@
--- Bytes that are a trace are the bytes of what they decode to: there is one spelling of each trace. Assumes nothing.
+-- Bytes that are a trace are the bytes of what they decode to: there is one spelling of each trace. Assumes a list of bytes (`Bytes`).
 use mathlib.Core.Path.{_≡_, refl, ap, sym, _∙_}
 use mathlib.Core.Bool.{true}
 use mathlib.Core.List.{List, _++_, append-assoc, append-nil}

@@ -1,4 +1,4 @@
--- What starting and appending leave in the buffer: the bytes of a trace, and every byte past it. Assumes nothing.
+-- What starting and appending leave in the buffer: the bytes of a trace, and every byte past it. Appending assumes a buffer of bytes (`Bytes`).
 use mathlib.Core.Path.{_≡_, refl, ap, sym, _∙_}
 use mathlib.Core.Bool.{true, false}
 use mathlib.Core.List.{List, [], _∷_, _++_, append-assoc, append-nil}

@@ -1,5 +1,5 @@
 -- Demand 2, the last sentence: traces written and read back give the same writes, through `check` too, and equal writes for
--- equal memory lengths give equal bytes. Assumes nothing but that the writes are as the bus delivers them.
+-- equal memory lengths give equal bytes. Assumes that the writes are as the bus delivers them; `one-spelling`, a list of bytes (`Bytes`).
 use mathlib.Core.Path.{_≡_, refl, ap, sym, _∙_}
 use mathlib.Core.Bool.{Bool, true, false, cond}
 use mathlib.Core.List.{List, [], _∷_, _++_}

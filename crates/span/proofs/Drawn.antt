@@ -1,4 +1,4 @@
--- The picture after any fragments at all: each law once, for every mode. Assumes nothing.
+-- The picture after any fragments at all: each law once, for every mode. `drawn-five` and `drawn-restores` assume a picture of bytes (`Bytes`).
 use mathlib.Core.Path.{_≡_, refl, ap, ap₂, sym, _∙_}
 use mathlib.Core.Bool.{Bool, false}
 use mathlib.Core.List.{List, [], _∷_, _++_}

@@ -1,4 +1,4 @@
--- What the span routine draws: a pattern of 32 pixels that repeats. Every mode's span is one of these, or two one after the other.
+-- What the span routine draws: a pattern of 32 pixels that repeats. Every span of a mode is one of these, and that of the 64-byte copy two, one after the other.
 use mathlib.Core.Path.{_≡_}
 use mathlib.Core.Bool.{Bool, cond}
 use mathlib.Core.List.{List}
