@@ -6,139 +6,39 @@ use card::Card;
 use card::Write;
 use libc::STDOUT_FILENO;
 
-// One beat of the trace: for each of 64 columns the top row and the number of rows.
-const TOPS: [u8; 64] = [
-    170,
-    170,
-    170,
-    170,
-    170,
-    170,
-    170,
-    169,
-    167,
-    165,
-    163,
-    162,
-    162,
-    163,
-    165,
-    167,
-    169,
-    170,
-    170,
-    170,
-    172,
-    170,
-    138,
-    96,
-    96,
-    138,
-    173,
-    176,
-    170,
-    170,
-    170,
-    169,
-    169,
-    167,
-    165,
-    163,
-    160,
-    157,
-    155,
-    154,
-    154,
-    155,
-    157,
-    160,
-    163,
-    165,
-    167,
-    169,
-    169,
-    170,
-    170,
-    170,
-    170,
-    170,
-    170,
-    170,
-    170,
-    170,
-    170,
-    170,
-    170,
-    170,
-    170,
-    170,
+const FOREGROUND: u32 = 0x0020;
+
+const MODE: u32 = 0x0030;
+
+const RASTER_OPERATION: u32 = 0x0034;
+
+const FILL_MASK: u32 = 0x0080;
+
+const OPAQUE_FILL: u32 = 0x21;
+
+const XOR: u32 = 6;
+
+// One beat of the trace: for each of 64 columns, eight to a line, the top row and the number of rows.
+const TOPS: [[u8; 8]; 8] = [
+    [170, 170, 170, 170, 170, 170, 170, 169],
+    [167, 165, 163, 162, 162, 163, 165, 167],
+    [169, 170, 170, 170, 172, 170, 138, 96],
+    [96, 138, 173, 176, 170, 170, 170, 169],
+    [169, 167, 165, 163, 160, 157, 155, 154],
+    [154, 155, 157, 160, 163, 165, 167, 169],
+    [169, 170, 170, 170, 170, 170, 170, 170],
+    [170, 170, 170, 170, 170, 170, 170, 170],
 ];
 
-const ROWS: [u8; 64] = [
-    2,
-    2,
-    2,
-    2,
-    2,
-    2,
-    2,
-    3,
-    4,
-    4,
-    4,
-    3,
-    3,
-    4,
-    4,
-    4,
-    3,
-    2,
-    2,
-    4,
-    8,
-    10,
-    34,
-    44,
-    44,
-    37,
-    15,
-    12,
-    8,
-    2,
-    2,
-    3,
-    2,
-    4,
-    4,
-    4,
-    5,
-    5,
-    4,
-    3,
-    3,
-    4,
-    5,
-    5,
-    4,
-    4,
-    4,
-    2,
-    3,
-    2,
-    2,
-    2,
-    2,
-    2,
-    2,
-    2,
-    2,
-    2,
-    2,
-    2,
-    2,
-    2,
-    2,
-    2,
+const ROWS: [[u8; 8]; 8] = [
+    [2, 2, 2, 2, 2, 2, 2, 3],
+    [4, 4, 4, 3, 3, 4, 4, 4],
+    [3, 2, 2, 4, 8, 10, 34, 44],
+    [44, 37, 15, 12, 8, 2, 2, 3],
+    [2, 4, 4, 4, 5, 5, 4, 3],
+    [3, 4, 5, 5, 4, 4, 4, 2],
+    [3, 2, 2, 2, 2, 2, 2, 2],
+    [2, 2, 2, 2, 2, 2, 2, 2],
 ];
 
 fn register(card: Card, offset: u32, data: u32, vram: &mut [u8]) -> Card {
@@ -178,9 +78,9 @@ fn filled(card: Card, x: u8, y: u8, width: u8, rows: u32, vram: &mut [u8]) -> Ca
 
 // Opaque fill in one colour.
 fn colour(card: Card, value: u32, vram: &mut [u8]) -> Card {
-    let card = register(card, 0x0030, 0x21, vram);
-    let card = register(card, 0x0080, 0xFFFFFFFF, vram);
-    register(card, 0x0020, value, vram)
+    let card = register(card, MODE, OPAQUE_FILL, vram);
+    let card = register(card, FILL_MASK, 0xFFFFFFFF, vram);
+    register(card, FOREGROUND, value, vram)
 }
 
 fn bands(card: Card, vram: &mut [u8]) -> Card {
@@ -206,11 +106,11 @@ fn wide(n: u8) -> u32 {
 
 // The beat comes again every 64 columns.
 fn top(i: u8) -> u8 {
-    TOPS[(i % 64) as usize]
+    TOPS[(i / 8 % 8) as usize][(i % 8) as usize]
 }
 
 fn rows(i: u8) -> u32 {
-    wide(ROWS[(i % 64) as usize])
+    wide(ROWS[(i / 8 % 8) as usize][(i % 8) as usize])
 }
 
 // The trace: a column for each of 240 places.
@@ -233,8 +133,8 @@ fn marks(card: Card, vram: &mut [u8]) -> Card {
 
 // The caliper, by exclusive-or in its colour. Made again from the same card, it is taken off.
 fn caliper(card: Card, vram: &mut [u8]) {
-    let card = register(card, 0x0034, 6, vram);
-    let card = register(card, 0x0020, 0x40404040, vram);
+    let card = register(card, RASTER_OPERATION, XOR, vram);
+    let card = register(card, FOREGROUND, 0x40404040, vram);
     marks(card, vram);
 }
 

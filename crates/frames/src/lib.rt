@@ -31,6 +31,7 @@ pub fn plan(card: Card, w: Write) -> Plan
     let pixels = card.mask.bits;
     let data = w.data;
     let address = w.address as usize;
+    // of a fill: data bits 17:16 are added to the address, bits 10:0 are the pixels less one
     let first = address + (data / 65536 % 4) as usize;
     let width = data % 2048 + 1;
     let faults = Faults {

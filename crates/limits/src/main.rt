@@ -3,6 +3,10 @@ use card::Card;
 use card::Write;
 use libc::STDOUT_FILENO;
 
+const MODE: u32 = 0x0030;
+
+const OPAQUE_FILL: u32 = 0x21;
+
 fn register(card: Card, offset: u32, data: u32) -> Card {
     let w = Write {
         space: 1,
@@ -67,7 +71,7 @@ fn too_long(vram: &mut [u8; 2097216]) {
 }
 
 fn fills() {
-    let card = register(Card::reset(0), 0x0030, 0x21);
+    let card = register(Card::reset(0), MODE, OPAQUE_FILL);
     let mut vram = [0u8; 2048];
     says(b"2048 pixels at 0 of 2048", card, 0, 2047, &mut vram);
     says(b"2048 pixels at 4 of 2048", card, 4, 2047, &mut vram);

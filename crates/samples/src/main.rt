@@ -4,6 +4,30 @@ use card::Card;
 use card::Write;
 use libc::STDOUT_FILENO;
 
+const FOREGROUND: u32 = 0x0020;
+
+const BACKGROUND: u32 = 0x0024;
+
+const PLANE_MASK: u32 = 0x0028;
+
+const MODE: u32 = 0x0030;
+
+const FILL_MASK: u32 = 0x0080;
+
+const BLOCK_COLOUR_0: u32 = 0x0140;
+
+const BLOCK_COLOUR_1: u32 = 0x0144;
+
+const COPY_DESTINATION: u32 = 0x0164;
+
+const TRANSPARENT_STIPPLE: u32 = 0x05;
+
+const COPY: u32 = 0x07;
+
+const OPAQUE_FILL: u32 = 0x21;
+
+const BLOCK_FILL: u32 = 0x2D;
+
 fn frame(address: u32, data: u32) -> Write {
     Write {
         space: 0,
@@ -93,8 +117,8 @@ fn s3() -> bool {
 }
 
 fn stipple() -> Card {
-    let card = register(Card::reset(0), 0x0030, 0x05);
-    register(card, 0x0020, 0xAAAAAAAA)
+    let card = register(Card::reset(0), MODE, TRANSPARENT_STIPPLE);
+    register(card, FOREGROUND, 0xAAAAAAAA)
 }
 
 fn s4() -> bool {
@@ -108,26 +132,26 @@ fn s5() -> bool {
 }
 
 fn s6() -> bool {
-    let card = register(Card::reset(0), 0x0030, 0x21);
-    let card = register(card, 0x0020, 0x01010101);
-    let card = register(card, 0x0024, 0x02020202);
-    let card = register(card, 0x0080, 0xF);
+    let card = register(Card::reset(0), MODE, OPAQUE_FILL);
+    let card = register(card, FOREGROUND, 0x01010101);
+    let card = register(card, BACKGROUND, 0x02020202);
+    let card = register(card, FILL_MASK, 0xF);
     let first = four([0u8; 64], 0, 0, 0, 1, 1);
     let right = four(first, 4, 1, 1, 2, 2);
     drawn(card, frame(0, 0x00020005), right, 6)
 }
 
 fn s7() -> bool {
-    let card = register(Card::reset(0), 0x0030, 0x2D);
-    let card = register(card, 0x0140, 0x03020100);
-    let card = register(card, 0x0144, 0x07060504);
-    let card = register(card, 0x0080, 0xFFFFFFFF);
+    let card = register(Card::reset(0), MODE, BLOCK_FILL);
+    let card = register(card, BLOCK_COLOUR_0, 0x03020100);
+    let card = register(card, BLOCK_COLOUR_1, 0x07060504);
+    let card = register(card, FILL_MASK, 0xFFFFFFFF);
     let right = four([0u8; 64], 4, 4, 5, 6, 7);
     drawn(card, frame(4, 3), right, 4)
 }
 
 fn s8() -> bool {
-    let card = register(Card::reset(0), 0x0028, 0x0F);
+    let card = register(Card::reset(0), PLANE_MASK, 0x0F);
     let right = four([0u8; 64], 0, 0x0F, 0, 0, 0);
     drawn(card, frame(0, 0xFFFFFFFF), right, 4)
 }
@@ -276,7 +300,7 @@ const COPIED: [u8; 64] = [
 ];
 
 fn s10() -> bool {
-    let card = register(Card::reset(0), 0x0030, 0x07);
+    let card = register(Card::reset(0), MODE, COPY);
     let mut vram = RAMP;
     let source = engine::write(card, frame(0, 0xFFFFFFFF), &mut vram);
     if source.number != 0 {
@@ -293,7 +317,7 @@ fn s11() -> bool {
     let w = Write {
         space: 1,
         lanes: 15,
-        address: 0x0164,
+        address: COPY_DESTINATION,
         data: 0,
     };
     refused(Card::reset(0), w, 9)
