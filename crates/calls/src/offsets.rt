@@ -4,6 +4,11 @@ use crate::readings::reads;
 use crate::readings::sent;
 use card::Card;
 
+// The 64-byte copy.
+const SOURCE: u32 = 0x0160;
+
+const DESTINATION: u32 = 0x0164;
+
 // The offsets that can be read.
 fn listed(offset: u32) -> bool {
     match offset {
@@ -41,9 +46,9 @@ pub(crate) fn high() -> u32 {
 // At reset, with a source loaded, and with that copied.
 pub(crate) fn write_only() -> u32 {
     let card = Card::reset(0);
-    let t = reads(reads(0, card, 0x0160, 4, 0), card, 0x0164, 4, 0);
-    let card = sent(card, 1, 0x0160, 0);
-    let t = reads(reads(t, card, 0x0160, 4, 0), card, 0x0164, 4, 0);
-    let card = sent(card, 1, 0x0164, 0);
-    reads(reads(t, card, 0x0160, 4, 0), card, 0x0164, 4, 0)
+    let t = reads(reads(0, card, SOURCE, 4, 0), card, DESTINATION, 4, 0);
+    let card = sent(card, 1, SOURCE, 0);
+    let t = reads(reads(t, card, SOURCE, 4, 0), card, DESTINATION, 4, 0);
+    let card = sent(card, 1, DESTINATION, 0);
+    reads(reads(t, card, SOURCE, 4, 0), card, DESTINATION, 4, 0)
 }

@@ -6,6 +6,15 @@ use card::Write;
 
 const ONES: u32 = 0xFFFF_FFFF;
 
+// The two offsets of the pixel mask.
+const ONE_SHOT: u32 = 0x002C;
+
+const LASTING: u32 = 0x005C;
+
+const RASTER_OPERATION: u32 = 0x0034;
+
+const PIXEL_SHIFT: u32 = 0x0038;
+
 // Every register that can be read: its offset, its value at reset, a value to write, and what is read once all are written.
 fn row(i: usize) -> [u32; 4] {
     match i {
@@ -87,17 +96,23 @@ pub(crate) fn after_writes() -> u32 {
 }
 
 fn both(right: u32, card: Card, value: u32) -> u32 {
-    reads(reads(right, card, 0x002C, 0, value), card, 0x005C, 0, value)
+    reads(
+        reads(right, card, ONE_SHOT, 0, value),
+        card,
+        LASTING,
+        0,
+        value,
+    )
 }
 
 // One value at both offsets. A one-shot mask stays after a refused frame write, here past the end of VRAM, and is used up by an
 // accepted one; a lasting mask stays.
 pub(crate) fn pixel_mask() -> u32 {
-    let once = sent(Card::reset(0), 1, 0x002C, 0x0F0F_0F0F);
+    let once = sent(Card::reset(0), 1, ONE_SHOT, 0x0F0F_0F0F);
     let t = both(0, once, 0x0F0F_0F0F);
     let t = both(t, sent(once, 0, 64, 0), 0x0F0F_0F0F);
     let t = both(t, sent(once, 0, 0, 0), ONES);
-    let lasting = sent(once, 1, 0x005C, 0x33CC_33CC);
+    let lasting = sent(once, 1, LASTING, 0x33CC_33CC);
     let t = both(t, lasting, 0x33CC_33CC);
     both(t, sent(lasting, 0, 0, 0), 0x33CC_33CC)
 }
@@ -115,19 +130,19 @@ fn kept(right: u32, offset: u32, data: u32, value: u32) -> u32 {
 
 // Raster-operation bits 31:12 and 7:4, and pixel-shift bits 31:4.
 pub(crate) fn ignored_bits() -> u32 {
-    let t = kept(0, 0x0034, 0xFFFF_F00A, 0xA);
-    let t = kept(t, 0x0034, 0x0000_00F5, 0x5);
-    let t = kept(t, 0x0034, 0x8000_1090, 0x0);
-    let t = kept(t, 0x0034, 0xFFFF_F0FF, 0xF);
-    let t = kept(t, 0x0038, 0xFFFF_FFF0, 0);
-    kept(t, 0x0038, 0x0000_0010, 0)
+    let t = kept(0, RASTER_OPERATION, 0xFFFF_F00A, 0xA);
+    let t = kept(t, RASTER_OPERATION, 0x0000_00F5, 0x5);
+    let t = kept(t, RASTER_OPERATION, 0x8000_1090, 0x0);
+    let t = kept(t, RASTER_OPERATION, 0xFFFF_F0FF, 0xF);
+    let t = kept(t, PIXEL_SHIFT, 0xFFFF_FFF0, 0);
+    kept(t, PIXEL_SHIFT, 0x0000_0010, 0)
 }
 
 // A card handed in with a raster operation that no write leaves: the same bits of it.
 fn handed(right: u32, raster: u32, value: u32) -> u32 {
     let mut card = Card::reset(0);
     card.registers.raster = raster;
-    reads(right, card, 0x0034, 0, value)
+    reads(right, card, RASTER_OPERATION, 0, value)
 }
 
 pub(crate) fn handed_in() -> u32 {

@@ -1,13 +1,13 @@
 -- Beyond demand 3's single draw: a caliper is a handful of writes, and made again from the same card the whole list takes it off.
 -- Register writes and refused ones may be among them. `taken-off` assumes a picture of bytes (`Bytes`).
 use mathlib.Core.Path.{_≡_, refl, ap, ap₂, sym, subst, _∙_}
-use mathlib.Core.Bool.{Bool, true, false, cond, not, _&&_}
+use mathlib.Core.Bool.{Bool, true, false}
 use mathlib.Core.List.{List, [], _∷_}
 use mathlib.Core.Logic.{_⊎_, inl, inr}
 use Prim.Native.Nat.{ℕ, _<_}
 use native.Mathlib.Decide.{decLt}
 use native.Mathlib.Omega.{arith}
-use lib.Dec.{T, eqb}
+use lib.Dec.{T}
 use lib.ListN.{length}
 use borrow.Author.Tests.{ne-eqb}
 use Rattle.raster.specs.Pixel.{composite, result, number, bit}
@@ -18,11 +18,11 @@ use Rattle.span.specs.Layers.{drawnAll}
 use Rattle.span.proofs.Layers.{Restores, drawnAll-restores, drawnAll-swap}
 use Rattle.card.specs.declared.Card.{Card}
 use Rattle.card.specs.declared.Write.{Write}
-use Rattle.rules.specs.Modes.{modeOf, isBlock}
 use Rattle.rules.specs.Refusal.{refusal}
-use Rattle.rules.specs.Writes.{count, layers, operation, picture, next}
+use Rattle.rules.specs.Writes.{count, layers, inBlockMode, operation, picture, next}
 use Rattle.rules.specs.Sequences.{cardAfter, pictureAfter, answersOf, obeys, EachUndoable}
 use Rattle.demands.proofs.Demand1.{same-length}
+use Rattle.demands.proofs.Demand3.{obeying}
 use Rattle.demands.proofs.Quiet.{none-drawn, next-blind}
 
 -- a draw that undoes itself: an operation that restores, and the layers that it draws
@@ -63,13 +63,9 @@ below op t = go (decLt op 16)
         = simp (ne-eqb op 5 (λ e. omega arith), ne-eqb op 6 (λ e. omega arith), ne-eqb op 9 (λ e. omega arith), ne-eqb op 10 (λ e. omega arith))
         in absurd (subst (λ (b : Bool). T b) none t)
 
-obeying : (c : Card) (w : Write) → obeys c w ≡ true → operation c w ≡ c .registers .raster
+by-register : (c : Card) (w : Write) → obeys c w ≡ true → operation c w ≡ c .registers .raster
 unfolding operation
-obeying c w = go (eqb (w .space) 0 && isBlock (modeOf (c .registers .mode)))
-  where
-    go : (b : Bool) → not b ≡ true → cond b 3 (c .registers .raster) ≡ c .registers .raster
-    go true e = absurd (subst (λ (b : Bool). T b) (sym e) tt)
-    go false e = refl
+by-register c w o = rw (obeying (inBlockMode c w) o)
 
 -- an undoable write is such a draw, whatever the picture
 draw-of : (c : Card) (w : Write) (n : ℕ) → (count c w n ≡ 0) ⊎ (T (restoring (c .registers .raster)) × (obeys c w ≡ true)) → Draw
@@ -81,7 +77,7 @@ draw-shows : (c : Card) (w : Write) (n : ℕ) (u : (count c w n ≡ 0) ⊎ (T (r
     → picture c w v ≡ drawnAll (draw-of c w n u .op) (draw-of c w n u .fs) v
 unfolding picture drawnAll draw-of
 draw-shows c w n (inl e) v l = none-drawn c w v (ap (λ (k : ℕ). count c w k) l ∙ e)
-draw-shows c w n (inr (t, o)) v l = ap₂ (λ (op k : ℕ). drawnAll op (layers c w k) v) (obeying c w o) l
+draw-shows c w n (inr (t, o)) v l = ap₂ (λ (op k : ℕ). drawnAll op (layers c w k) v) (by-register c w o) l
 
 draws : (ws : List Write) (c : Card) (v : List ℕ) → EachUndoable ws c v → List Draw
 draws [] c v u = []

@@ -1,10 +1,9 @@
--- No write enables more than 2,048 pixels. Assumes nothing.
+-- A write has one span or none, and enables no more than 2,048 pixels. Assumes nothing.
 use mathlib.Core.Bool.{Bool, true, false, cond}
-use mathlib.Core.List.{List, []}
-use Prim.Native.Nat.{ℕ, _+_, _≤_}
+use mathlib.Core.List.{List, [], _∷_}
+use Prim.Native.Nat.{ℕ, _≤_}
 use native.Mathlib.Omega.{arith}
 use lib.Dec.{eqb}
-use Rattle.span.specs.Fragments.{counted}
 use Rattle.span.specs.Layers.{summed}
 use Rattle.span.proofs.Counted.{counted-le}
 use Rattle.card.specs.Registers.{_is_}
@@ -29,19 +28,20 @@ frame-width BlockFill c w = omega arith
 frame-width Copy c w = omega arith
 frame-width Unlisted c w = omega arith
 
-one-of : (b : Bool) (p q : List Span) → summed enabledIn p ≤ 2048 → summed enabledIn q ≤ 2048 → summed enabledIn (cond b p q) ≤ 2048
-one-of true p q hp hq = hp
-one-of false p q hp hq = hq
-
-one : (n : ℕ) (on : ℕ → Bool) → n ≤ 2048 → counted n on + 0 ≤ 2048
-one n on h = omega (arith, counted-le n on)
-
-pub spans-enable : (c : Card) (w : Write) → summed enabledIn (spansOf c w) ≤ 2048
+-- what holds of no span and of any one of so many pixels holds of every write's spans
+pub one-or-none : (p : List Span → Type 0) (c : Card) (w : Write) → p [] → ((s : Span) → s .width ≤ 2048 → p (s ∷ [])) → p (spansOf c w)
 unfolding spansOf
-spans-enable c w =
-    one-of (eqb (w .space) 1) _ _
-    (one-of (registerOf w is CopySource) _ _ (one 64 (λ i. false) (omega arith)) (one-of (registerOf w is CopyDestination) _ [] (one 64 (λ i. true) (omega arith)) (omega arith)))
-    (one _ (frameSpan (modeOf (c .registers .mode)) c w .on) (frame-width (modeOf (c .registers .mode)) c w))
+one-or-none p c w none one =
+    either (eqb (w .space) 1)
+    (either (registerOf w is CopySource) (one _ (omega arith)) (either (registerOf w is CopyDestination) (one _ (omega arith)) none))
+    (one _ (frame-width (modeOf (c .registers .mode)) c w))
+  where
+    either : (b : Bool) {x y : List Span} → p x → p y → p (cond b x y)
+    either true h k = h
+    either false h k = k
+
+spans-enable : (c : Card) (w : Write) → summed enabledIn (spansOf c w) ≤ 2048
+spans-enable c w = one-or-none (λ ss. summed enabledIn ss ≤ 2048) c w (omega arith) (λ s h. omega (arith, counted-le (s .width) (s .on)))
 
 pub count-bound : (c : Card) (w : Write) (n : ℕ) → count c w n ≤ 2048
 unfolding count

@@ -21,7 +21,7 @@ use Rattle.span.specs.Spans.{Span, spanned}
 use Rattle.rules.specs.Modes.{effectiveBy, effective, spansOf}
 use Rattle.rules.specs.Writes.{accepted, operation, layers, afterFrame, afterRegister, next, picture}
 use Rattle.rules.specs.Sequences.{cardAfter, pictureAfter}
-use Rattle.span.proofs.Spans.{spanned-before, spanned-in, spanned-past}
+use Rattle.span.proofs.Spans.{spanned-before, spanned-in, spanned-past, spanned-disabled}
 use Rattle.demands.proofs.Demand1.{same-length}
 
 -- what a write can do at an address: nothing, or a pixel under the effective mask of that address
@@ -59,12 +59,7 @@ Misses i s = (i < s .first) ⊎ ((s .first + s .width ≤ i) ⊎ (s .on (i - s .
 missed : (c : Card) (i : ℕ) (s : Span) → Misses i s → spanned (effective c) s i ≡ stays
 missed c i s (inl b) = spanned-before (effective c) s i b
 missed c i s (inr (inl b)) = spanned-past (effective c) s i b
-missed c i s (inr (inr e)) = off (decLt i (s .first)) (decLt i (s .first + s .width))
-  where
-    off : Dec (i < s .first) → Dec (i < s .first + s .width) → spanned (effective c) s i ≡ stays
-    off (yes b) k = spanned-before (effective c) s i b
-    off (no b) (no k) = spanned-past (effective c) s i (omega arith)
-    off (no b) (yes k) = spanned-in (effective c) s i (i - s .first) (omega arith) (omega arith) ∙ rw e
+missed c i s (inr (inr e)) = spanned-disabled (effective c) s i (λ h. e)
 
 -- a byte that every span misses stays
 pub outside-stays : (c : Card) (w : Write) (v : List ℕ) (i : ℕ) → i < length v → Each (Misses i) (spansOf c w)
@@ -88,7 +83,7 @@ masked-stays c w v i k h l e =
     go f (paints s) old = made-outside 8 (operation c w) (effective c i) s old k l e
 
 -- the effective mask leaves the held planes out
-pub held-masked : (c : Card) (a k : ℕ) → k < 8 → bit (c .held) k ≡ true → bit (effective c a) k ≡ false
+held-masked : (c : Card) (a k : ℕ) → k < 8 → bit (c .held) k ≡ true → bit (effective c a) k ≡ false
 unfolding effectiveBy
 held-masked c a k l e = bit-number 8 _ k l ∙ rw e
 

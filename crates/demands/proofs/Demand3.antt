@@ -2,13 +2,11 @@
 -- refused ones and register writes included; and the four operations that restore every picture. `restores` assumes a picture of bytes (`Bytes`).
 use mathlib.Core.Path.{_≡_, refl, ap, ap₂, sym, _∙_}
 use mathlib.Core.Bool.{Bool, true, false, cond, not}
-use mathlib.Core.List.{List, [], _∷_, map}
-use Prim.Native.Nat.{ℕ, _+_, _*_, _/_, _%_, _<_, _≤_}
-use native.Mathlib.Decide.{decLt}
+use mathlib.Core.List.{List, [], map}
+use Prim.Native.Nat.{ℕ, _+_, _*_, _/_, _%_, _<_}
 use native.Mathlib.Omega.{arith}
-use lib.Dec.{T, eqb, ltb}
+use lib.Dec.{T, ltb}
 use lib.ListN.{length}
-use borrow.Author.Tests.{lt-ltb, le-ltb}
 use Rattle.raster.specs.Pixel.{bit, number, result, composite, Operations, only, _then_, compositeOf}
 use Rattle.raster.specs.Operations.{restoring}
 use Rattle.raster.proofs.Composite.{result-low}
@@ -16,17 +14,17 @@ use Rattle.raster.proofs.Operations.{undoes-itself}
 use Rattle.span.specs.Fragments.{Fragment, Bytes}
 use Rattle.span.specs.Layers.{drawnAll, Apart}
 use Rattle.span.proofs.Layers.{drawnAll-op, drawnAll-composes, drawnAll-restores}
-use Rattle.card.specs.Registers.{_is_}
 use Rattle.card.specs.declared.Card.{Card}
 use Rattle.card.specs.declared.Write.{Write}
-use Rattle.card.specs.declared.Register.the-variants.{CopySource, CopyDestination}
-use Rattle.span.specs.Spans.{Span, spanned}
-use Rattle.rules.specs.Modes.{modeOf, effective, registerOf, frameSpan, spansOf}
+use Rattle.span.specs.Spans.{spanned}
+use Rattle.rules.specs.Modes.{modeOf, effective, frameSpan, spansOf}
 use Rattle.rules.specs.Refusal.{badLanes, badMode, badRaster, offBoundary, outside, unloaded, refusal}
 use Rattle.rules.specs.Writes.{accepted, count, layers, inBlockMode, operation, picture}
 use Rattle.rules.specs.Sequences.{withOperation, drawnWith, drawnWithEach, EachDraw, obeys}
 use Rattle.rules.specs.declared.Mode.{Mode}
 use Rattle.rules.specs.declared.Mode.the-variants.{Simple, OpaqueStipple, TransparentStipple, OpaqueFill, TransparentFill, BlockStipple, BlockFill, Copy, Unlisted}
+use Rattle.rules.proofs.Tests.{same-test}
+use Rattle.demands.proofs.Counting.{one-or-none}
 use Rattle.demands.proofs.Demand1.{same-length}
 
 -- the span does not look at the raster operation
@@ -48,18 +46,14 @@ module _ (a : ℕ) (c : Card) (w : Write) where
   spans-same = rw (frame-same a c w (modeOf (c .registers .mode)))
 
   raster-same : ltb 15 (c .registers .raster / 16 * 16 + a % 16) ≡ ltb 15 (c .registers .raster)
-  raster-same = go (decLt 15 (c .registers .raster))
-    where
-      go : Dec (15 < c .registers .raster) → ltb 15 (c .registers .raster / 16 * 16 + a % 16) ≡ ltb 15 (c .registers .raster)
-      go (yes h) = lt-ltb 15 (c .registers .raster / 16 * 16 + a % 16) (omega arith) ∙ sym (lt-ltb 15 (c .registers .raster) h)
-      go (no h) = le-ltb 15 (c .registers .raster / 16 * 16 + a % 16) (omega arith) ∙ sym (le-ltb 15 (c .registers .raster) (omega arith))
+  raster-same = same-test 15 (c .registers .raster / 16 * 16 + a % 16) 15 (c .registers .raster) (λ h. omega arith) (λ h. omega arith)
 
   -- number and count are those of the given card, whatever the operation
-  pub number-alike : (n : ℕ) → refusal (withOperation a c) w n ≡ refusal c w n
+  number-alike : (n : ℕ) → refusal (withOperation a c) w n ≡ refusal c w n
   unfolding refusal badLanes badMode badRaster offBoundary outside unloaded
   number-alike n = simp (raster-same, spans-same)
 
-  pub count-alike : (n : ℕ) → count (withOperation a c) w n ≡ count c w n
+  count-alike : (n : ℕ) → count (withOperation a c) w n ≡ count c w n
   unfolding count
   count-alike n = simp (number-alike n, spans-same)
 
@@ -95,7 +89,7 @@ picture-twice a b c w v =
     ∙ ap₂ (λ (n : ℕ) (u : List ℕ). drawnAll (cond (inBlockMode c w) 3 b) (layers c w n) u) (same-length (withOperation a c) w v) (picture-with a c w v)
 
 -- drawing with a and then with b is drawing with their composite, where no pixel is drawn twice
-pub composes-two : (a b : ℕ) (c : Card) (w : Write) (v : List ℕ) → Apart (layers c w (length v))
+composes-two : (a b : ℕ) (c : Card) (w : Write) (v : List ℕ) → Apart (layers c w (length v))
     → drawnWith b c w (drawnWith a c w v) ≡ drawnWith (composite a b) c w v
 unfolding composite result number bit
 composes-two a b c w v apart =
@@ -108,7 +102,7 @@ composes-two a b c w v apart =
     go false = refl
 
 -- the last picture equals that of one draw with the composite of the list: one claim about the whole list of draws
-pub composes-apart : (ops : Operations) (c : Card) (w : Write) (v : List ℕ) → Apart (layers c w (length v))
+composes-apart : (ops : Operations) (c : Card) (w : Write) (v : List ℕ) → Apart (layers c w (length v))
     → drawnWithEach ops c w v ≡ drawnWith (compositeOf ops) c w v
 unfolding drawnWithEach compositeOf
 composes-apart (only a) c w v apart = refl
@@ -117,22 +111,12 @@ composes-apart (ops then a) c w v apart =
 
 -- no write of today draws a pixel twice: it has one span, or none
 pub apart : (c : Card) (w : Write) (n : ℕ) → Apart (layers c w n)
-unfolding layers spansOf
-apart c w n =
-    go (accepted c w n) (spansOf c w)
-    (either (eqb (w .space) 1) _ _
-    (either (registerOf w is CopySource) _ _ (omega arith) (either (registerOf w is CopyDestination) _ [] (omega arith) (omega arith)))
-    (omega arith))
+unfolding layers
+apart c w n = go (accepted c w n)
   where
-    either : (b : Bool) (p q : List Span) → length p ≤ 1 → length q ≤ 1 → length (cond b p q) ≤ 1
-    either true p q hp hq = hp
-    either false p q hp hq = hq
-
-    go : (b : Bool) (ss : List Span) → length ss ≤ 1 → Apart (cond b (map (spanned (effective c)) ss) [])
-    go true [] h = tt
-    go true (s ∷ []) h = (tt, tt)
-    go true (s ∷ t ∷ ss) h = absurd (omega arith)
-    go false ss h = tt
+    go : (b : Bool) → Apart (cond b (map (spanned (effective c)) (spansOf c w)) [])
+    go true = one-or-none (λ ss. Apart (map (spanned (effective c)) ss)) c w tt (λ s h. (tt, tt))
+    go false = tt
 
 -- every picture on the way has the length of the first
 each-length : (ops : Operations) (c : Card) (w : Write) (v : List ℕ) → length (drawnWithEach ops c w v) ≡ length v
@@ -166,7 +150,8 @@ pub composes : (ops : Operations) (c : Card) (w : Write) (v : List ℕ) → Comp
 composes ops c w v =
     record { last = composes-apart ops c w v (apart c w (length v)); alike = each-alike ops (compositeOf ops) c w v }
 
-obeying : (k : Bool) → not k ≡ true → k ≡ false
+-- a draw that obeys is not in a block mode
+pub obeying : (k : Bool) → not k ≡ true → k ≡ false
 obeying true e = sym e
 obeying false e = refl
 

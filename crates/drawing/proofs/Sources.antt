@@ -13,10 +13,10 @@ use Rattle.span.proofs.Listed.{listed-at, listed-same}
 use Rattle.plan.specs.Plan.{takenBy, isWhole}
 use Rattle.plan.specs.declared.Paint.{Paint}
 use Rattle.plan.specs.declared.Paint.the-variants.{Stippled, Tiled, Half, Whole}
-use Rattle.plan.proofs.Plans.{twice}
+use Rattle.plan.proofs.Plans.{tiled-solid}
 
--- the eight bytes of two registers
-abbrev pub eight : ℕ → ℕ → List ℕ
+-- the eight bytes of two words
+abbrev eight : ℕ → ℕ → List ℕ
 eight a b = listed 8 (λ t. byte (getD (a ∷ b ∷ []) (t / 4) 0) (t % 4))
 
 same : {A : Type 0} (b : Bool) (x : A) → cond b x x ≡ x
@@ -40,7 +40,7 @@ chosen-stippled bits x y phase {on} {off} eo ef =
     (ap (λ (l : List ℕ). getD l ((phase + k) % 8) 0) ef ∙ word y (phase + k)))
   where
     word : (z p : ℕ) → getD (eight z z) (p % 8) 0 ≡ byte z (p % 4)
-    word z p = eight-at z z p ∙ ap (λ (r : ℕ). byte r (p % 4)) (twice z (p % 8 / 4) (omega arith))
+    word z p = eight-at z z p ∙ tiled-solid z p
 
 pub chosen-tiled : (pick a b phase : ℕ) {both : List ℕ} → both ≡ eight a b
     → listed 32 (λ k. cond (bit pick k) (getD both ((phase + k) % 8) 0) (getD both ((phase + k) % 8) 0))
@@ -50,10 +50,10 @@ chosen-tiled pick a b phase e =
     (λ k h. same (bit pick k) _ ∙ (ap (λ (l : List ℕ). getD l ((phase + k) % 8) 0) e ∙ eight-at a b (phase + k)))
 
 -- the stipple and the tile as they are digested, for pixels from address `at` on
-abbrev pub stippledOf : ℕ → ℕ → ℕ → ℕ → List ℕ
+abbrev stippledOf : ℕ → ℕ → ℕ → ℕ → List ℕ
 stippledOf bits x y at = listed 32 (λ k. cond (bit bits k) (byte x ((at + k) % 4)) (byte y ((at + k) % 4)))
 
-abbrev pub tiledOf : ℕ → ℕ → ℕ → List ℕ
+abbrev tiledOf : ℕ → ℕ → ℕ → List ℕ
 tiledOf a b at = listed 32 (λ k. byte (getD (a ∷ b ∷ []) ((at + k) % 8 / 4) 0) ((at + k) % 4))
 
 -- they repeat after 32 pixels, and so do the bytes that go by address

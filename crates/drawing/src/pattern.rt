@@ -28,7 +28,7 @@ pub(crate) fn masks(plane: u32, held: u32) -> [u8; 4]
     ]
 }
 
-// The bytes of two registers, the first register's first.
+// The bytes of two words, the first word's first.
 fn two_words(a: u32, b: u32) -> [u8; 8]
     ensures { λ r. ⌜ r ≡ listed 8 (λ t. byte (getD (a ∷ b ∷ []) (t / 4) 0) (t % 4)) ⌝ }
 {

@@ -1,6 +1,6 @@
 -- The bytes of a trace decode to its writes. Assumes nothing but that the writes are as the bus delivers them.
 use mathlib.Core.Path.{_≡_, refl, ap, sym, _∙_}
-use mathlib.Core.Bool.{Bool, true, false, not, _||_}
+use mathlib.Core.Bool.{true, false, not, _||_}
 use mathlib.Core.List.{List, [], _∷_, _++_, append-nil}
 use Prim.Native.Nat.{ℕ, zero, suc, _+_, _*_, _%_, _≤_}
 use native.Mathlib.Nat.{add-assoc}
@@ -11,6 +11,7 @@ use lib.Seq.{getD-drop}
 use borrow.Author.Tests.{ltb-false}
 use Rattle.card.specs.declared.Write.{Write}
 use Rattle.rules.specs.Refusal.{badLength, largestVram}
+use Rattle.rules.proofs.Tests.{neither}
 use Rattle.format.specs.Bytes.{word, bytes}
 use Rattle.format.specs.Traces.{largest, Delivered, header, entry, entries, encoded, writeAt, writesAt, paddedAt, entryCount, writes, wellFormed, isTrace, trace, decoded}
 use Rattle.format.proofs.Bytes.{word-bytes, word-drop}
@@ -47,7 +48,7 @@ pub data Every : List Write → Type 0 where
   none : Every []
   more : {w : Write} {ws : List Write} → Delivered w → Every ws → Every (w ∷ ws)
 
-pub writesAt-entries : (ws : List Write) (rest : List ℕ) → Every ws → writesAt (entries ws ++ rest) 0 (length ws) ≡ ws
+writesAt-entries : (ws : List Write) (rest : List ℕ) → Every ws → writesAt (entries ws ++ rest) 0 (length ws) ≡ ws
 unfolding writesAt entries entry bytes
 writesAt-entries [] rest none = refl
 writesAt-entries (w ∷ ws) rest (more d ds) =
@@ -57,13 +58,13 @@ writesAt-entries (w ∷ ws) rest (more d ds) =
       sym (writesAt-drop 12 (entry w ++ tail) 0 (length ws)) ∙ writesAt-entries ws rest ds,
     )
 
-pub paddedAt-entries : (ws : List Write) (rest : List ℕ) → paddedAt (entries ws ++ rest) 0 (length ws) ≡ true
+paddedAt-entries : (ws : List Write) (rest : List ℕ) → paddedAt (entries ws ++ rest) 0 (length ws) ≡ true
 unfolding paddedAt entries entry bytes
 paddedAt-entries [] rest = refl
 paddedAt-entries (w ∷ ws) rest =
     sym (paddedAt-drop 12 (entry w ++ (entries ws ++ rest)) 0 (length ws)) ∙ paddedAt-entries ws rest
 
-pub length-entries : (ws : List Write) → length (entries ws) ≡ 12 * length ws
+length-entries : (ws : List Write) → length (entries ws) ≡ 12 * length ws
 unfolding entries entry bytes
 length-entries [] = refl
 length-entries (w ∷ ws) = omega (arith, length-entries ws)
@@ -90,11 +91,7 @@ module _ (ws : List Write) (few : length ws ≤ largest) where
 -- a VRAM length that number 1 does not refuse is small
 pub small : (n : ℕ) → badLength n ≡ false → n ≤ largestVram
 unfolding badLength
-small n e = ltb-false _ _ (neither (eqb n 0 || not (eqb (n % 64) 0)) (ltb largestVram n) e)
-  where
-    neither : (a b : Bool) → a || b ≡ false → b ≡ false
-    neither true b e = cc
-    neither false b e = e
+small n e = ltb-false _ _ (neither (eqb n 0 || not (eqb (n % 64) 0)) (ltb largestVram n) e .1)
 
 -- the bytes of a trace
 module _ (vram : ℕ) (ws : List Write) (good : badLength vram ≡ false) (few : length ws ≤ largest) where

@@ -28,7 +28,7 @@ module _ (v : List ℕ) (fits : Bytes v) where
       sym (drop-four v a (omega arith) ∙ rw (p, q, tail))
 
   -- k entries
-  pub entries-writesAt : (a k b : ℕ) → b ≤ length v → a + 12 * k ≡ b → paddedAt v a k ≡ true
+  entries-writesAt : (a k b : ℕ) → b ≤ length v → a + 12 * k ≡ b → paddedAt v a k ≡ true
       → entries (writesAt v a k) ++ drop b v ≡ drop a v
   unfolding entries writesAt paddedAt
   entries-writesAt a zero b h e t = let same : b ≡ a = omega arith in ap (λ (n : ℕ). drop n v) same
@@ -54,7 +54,7 @@ module _ (v : List ℕ) (fits : Bytes v) where
       ))
 
 -- a part is the entries of its writes
-pub entries-writes : (part : List ℕ) → Bytes part → wellFormed part ≡ true → entries (writes part) ≡ part
+entries-writes : (part : List ℕ) → Bytes part → wellFormed part ≡ true → entries (writes part) ≡ part
 unfolding writes
 entries-writes part fits e =
     let f = formed part e in

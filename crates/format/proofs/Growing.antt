@@ -111,7 +111,7 @@ module _ (b : List ℕ) (used : ℕ) (a : Appendable b used) where
   pub count-read : wordAt b 0 ≡ word b 0
   count-read = word-inside b 0 (omega (arith, header-within, a .within))
 
-  pub vram-read : wordAt b 8 ≡ word b 8
+  vram-read : wordAt b 8 ≡ word b 8
   vram-read = word-inside b 8 (omega (arith, header-within, a .within))
 
   pub count-below : word b 0 < largest
@@ -123,7 +123,7 @@ module _ (b : List ℕ) (used : ℕ) (a : Appendable b used) where
       below : (n : ℕ) → n ≤ largest → (n ≡ largest → ⊥) → n < largest
       below n h e = omega arith
 
-  pub stored-entry : (w : Write) → Bytes b → sets (sets b 0 (header (word b 0 + 1) (word b 8))) used (entry w) ≡ encoded (word t 8) (so-far ++ (w ∷ [])) ++ drop (used + 12) b
+  stored-entry : (w : Write) → Bytes b → sets (sets b 0 (header (word b 0 + 1) (word b 8))) used (entry w) ≡ encoded (word t 8) (so-far ++ (w ∷ [])) ++ drop (used + 12) b
   unfolding encoded
   stored-entry w fits =
       let h : List ℕ = header (length so-far) (word t 8) in

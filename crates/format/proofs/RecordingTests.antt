@@ -10,6 +10,7 @@ use lib.ListN.{length, take}
 use borrow.Author.Tests.{eq-eqb, ne-eqb, lt-ltb, le-ltb, ltb-false, eqb-false, not-false}
 use Rattle.card.specs.declared.Write.{Write}
 use Rattle.rules.specs.Refusal.{badLength, badSpace}
+use Rattle.rules.proofs.Tests.{neither}
 use Rattle.format.specs.Bytes.{word}
 use Rattle.format.specs.Traces.{largest, isTrace}
 use Rattle.format.specs.Recording.{startNumber, appendNumber}
@@ -17,10 +18,6 @@ use Rattle.format.specs.Recording.{startNumber, appendNumber}
 or-true : (b : Bool) → b || true ≡ true
 or-true true = refl
 or-true false = refl
-
-neither : (a b : Bool) → a || b ≡ false → (a ≡ false) × (b ≡ false)
-neither true b e = (cc, cc)
-neither false b e = (refl, e)
 
 -- a picked number that is 0 was not the first
 passed : (a : Bool) (k n : ℕ) → 0 < k → cond a k n ≡ 0 → (a ≡ false) × (n ≡ 0)

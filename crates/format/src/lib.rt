@@ -6,7 +6,7 @@ pub const HEADER: usize = 16;
 
 pub const ENTRY: usize = 12;
 
-// The same as numbers of the header: the offset of the entries, and the step from one to the next.
+// The same as 32-bit numbers: the offset of the entries, and the step from one to the next.
 pub const OFFSET: u32 = HEADER as u32;
 
 pub const STEP: u32 = ENTRY as u32;

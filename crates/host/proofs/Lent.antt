@@ -45,7 +45,7 @@ cardS = plain (λ _. T.the-row)
 abbrev pub byteS : {n : ℕ} → Slot n
 byteS = plain (λ _. u8)
 
-abbrev pub wordS : {n : ℕ} → Slot n
+abbrev wordS : {n : ℕ} → Slot n
 wordS = plain (λ _. u32)
 
 -- nothing is had of a number at exit, and nothing is said of it

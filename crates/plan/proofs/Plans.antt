@@ -40,7 +40,7 @@ blocked block zero h = refl
 blocked block (suc zero) h = refl
 blocked block (suc (suc t)) h = absurd (omega arith)
 
-pub twice : (x t : ℕ) → t < 2 → getD (x ∷ x ∷ []) t 0 ≡ x
+twice : (x t : ℕ) → t < 2 → getD (x ∷ x ∷ []) t 0 ≡ x
 twice x zero h = refl
 twice x (suc zero) h = refl
 twice x (suc (suc t)) h = absurd (omega arith)
@@ -51,7 +51,7 @@ half-of p = omega arith
 tiled-blocks : (block : List ℕ) (p : ℕ) → byte (getD (getD block 0 0 ∷ getD block 1 0 ∷ []) (p % 8 / 4) 0) (p % 4) ≡ byte (getD block (p % 8 / 4) 0) (p % 4)
 tiled-blocks block p = ap (λ (x : ℕ). byte x (p % 4)) (blocked block (p % 8 / 4) (half-of p))
 
-tiled-solid : (x p : ℕ) → byte (getD (x ∷ x ∷ []) (p % 8 / 4) 0) (p % 4) ≡ byte x (p % 4)
+pub tiled-solid : (x p : ℕ) → byte (getD (x ∷ x ∷ []) (p % 8 / 4) 0) (p % 4) ≡ byte x (p % 4)
 tiled-solid x p = ap (λ (y : ℕ). byte y (p % 4)) (twice x (p % 8 / 4) (half-of p))
 
 module _ (c : Card) (w : Write) where

@@ -68,10 +68,10 @@ enableOf Copy c w = cond (isSet (c .copier .writing)) (w .«data») 0
 enableOf Unlisted c w = 0
 
 -- one word for all pixels, and block colours 0 and 1
-abbrev pub solid : ℕ → ℕ → Paint
+abbrev solid : ℕ → ℕ → Paint
 solid x at = Tiled x x at
 
-abbrev pub blocks : Card → ℕ → Paint
+abbrev blocks : Card → ℕ → Paint
 blocks c at = Tiled (getD (c .registers .block) 0 0) (getD (c .registers .block) 1 0) at
 
 abbrev pub paintOf : Mode → Card → Write → Paint

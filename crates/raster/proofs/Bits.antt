@@ -12,7 +12,7 @@ pub bit-zero : (n : ℕ) → bit n 0 ≡ eqb (n % 2) 1
 unfolding bit
 bit-zero n = simp div-one
 
-pub bit-suc : (n k : ℕ) → bit n (suc k) ≡ bit (n / 2) k
+bit-suc : (n k : ℕ) → bit n (suc k) ≡ bit (n / 2) k
 unfolding bit
 bit-suc n k = ap (λ (m : ℕ). eqb (m % 2) 1) (ap (λ (e : ℕ). n / 2 ^ e) (omega arith) ∙ sym (shr-shr n 1 k))
 
@@ -55,7 +55,7 @@ value-bit (suc zero) h = refl
 value-bit (suc (suc m)) h = absurd (omega arith)
 
 -- a number below 2 ^ w is made of its own bits
-pub number-bits : (w n : ℕ) → n < 2 ^ w → number w (bit n) ≡ n
+number-bits : (w n : ℕ) → n < 2 ^ w → number w (bit n) ≡ n
 unfolding number
 number-bits zero n h = omega arith
 number-bits (suc w) n h =

@@ -1,4 +1,4 @@
--- Composing two operations: what the composite gives, the monoid laws, and which operations undo themselves. Assumes nothing.
+-- Composing two operations: what the composite gives, and the monoid laws. Assumes nothing.
 use mathlib.Core.Path.{_≡_, refl}
 use mathlib.Core.Bool.{Bool, true, false}
 use Prim.Native.Nat.{ℕ, zero, suc, _/_, _%_, _<_}
@@ -23,12 +23,12 @@ result-composite a b true false = bit-number 4 _ 1 (lit< tt)
 result-composite a b false true = bit-number 4 _ 2 (lit< tt)
 result-composite a b false false = bit-number 4 _ 3 (lit< tt)
 
-pub composite-below : (a b : ℕ) → composite a b < 16
+composite-below : (a b : ℕ) → composite a b < 16
 unfolding composite
 composite-below a b = number-below 4 _
 
 -- two operations below 16 that give the same bits are one operation
-pub same-result : (a b : ℕ) → a < 16 → b < 16 → ((s d : Bool) → result a s d ≡ result b s d) → a ≡ b
+same-result : (a b : ℕ) → a < 16 → b < 16 → ((s d : Bool) → result a s d ≡ result b s d) → a ≡ b
 unfolding result
 same-result a b ha hb e = same-bits 4 a b ha hb each
   where

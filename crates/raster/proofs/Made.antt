@@ -1,4 +1,4 @@
--- One pixel as it is made, over any width: each law once. Assumes nothing.
+-- One pixel as it is made, over any width: each law once. `made-five` and `made-restores` assume an old pixel of that width.
 use mathlib.Core.Path.{_≡_, refl, ap, sym, _∙_}
 use mathlib.Core.Bool.{Bool, true, false, cond}
 use Prim.Native.Nat.{ℕ, _^_, _<_}

@@ -1,4 +1,4 @@
--- A raster operation reduced to two bytes: what settles an old byte of zeros and one of ones settles every old byte. Assumes nothing.
+-- A raster operation reduced to two bytes: what settles an old byte of zeros and one of ones settles every old byte. `reduced-made` assumes an old byte.
 use mathlib.Core.Path.{_≡_, refl, _∙_}
 use mathlib.Core.Bool.{Bool, true, false, cond, not}
 use Prim.Native.Nat.{ℕ, _/_, _<_}

@@ -29,7 +29,7 @@ adjacent : (v : List ℕ) (a : ℕ) (xs ys : List ℕ) → sets (sets v a xs) (a
 adjacent v a [] ys = ap (λ (i : ℕ). sets v i ys) (omega arith)
 adjacent v a (x ∷ xs) ys = ap (λ (i : ℕ). sets (sets v a (x ∷ xs)) i ys) (omega arith) ∙ adjacent (set v a x) (suc a) xs ys
 
-pub then-sets : (v : List ℕ) {v₁ v₂ : List ℕ} (a b : ℕ) (xs ys : List ℕ)
+then-sets : (v : List ℕ) {v₁ v₂ : List ℕ} (a b : ℕ) (xs ys : List ℕ)
     → v₁ ≡ sets v a xs → v₂ ≡ sets v₁ b ys → a + length xs ≡ b → v₂ ≡ sets v a (xs ++ ys)
 then-sets v a b xs ys e₁ e₂ e =
     e₂ ∙ ap (λ (l : List ℕ). sets l b ys) e₁ ∙ ap (λ (i : ℕ). sets (sets v a xs) i ys) (sym e) ∙ adjacent v a xs ys

@@ -1,13 +1,14 @@
--- What an accepted write has passed, and what the definitions then say; and what a refused one leaves. Assumes nothing.
+-- What an accepted write has passed, and what the definitions then say; that of several numbers the lowest is returned; and what a refused write
+-- leaves. Assumes nothing.
 use mathlib.Core.Path.{_≡_, refl}
-use mathlib.Core.Bool.{Bool, true, false, _&&_, _||_, false≢true}
+use mathlib.Core.Bool.{Bool, true, false, _&&_, false≢true}
 use mathlib.Core.List.{List, [], _∷_, map}
 use mathlib.Core.Logic.{_⊎_, inl, inr}
 use Prim.Native.Nat.{ℕ, zero, suc, _≤_, _<_}
 use native.Mathlib.Omega.{arith}
-use lib.Dec.{T, leb, ltb}
+use lib.Dec.{T, leb}
 use lib.ListN.{length, getD}
-use borrow.Author.Tests.{eq-eqb, ne-eqb, leb-true, ltb-true, ltb-false}
+use borrow.Author.Tests.{eq-eqb, ne-eqb, leb-true, ltb-false}
 use Rattle.raster.proofs.Below.{left, right, is-true}
 use Rattle.span.specs.Layers.{drawnAll, summed}
 use Rattle.span.specs.Spans.{spanned, enabledIn}
@@ -16,17 +17,18 @@ use Rattle.card.specs.declared.Write.{Write}
 use Rattle.rules.specs.Modes.{effective, spansOf}
 use Rattle.rules.specs.Refusal.{badSpace, badRaster, rows, firstHolding, refusal}
 use Rattle.rules.specs.Writes.{count, layers, operation, picture, afterFrame, afterRegister, next}
+use Rattle.rules.proofs.Tests.{neither}
 
--- every row's number is above 0
-abbrev above : List (ℕ × Bool) → Bool
-above [] = true
-above (r ∷ rs) = ltb 0 (r .0) && above rs
+-- every row's number is k or above
+abbrev from : ℕ → List (ℕ × Bool) → Bool
+from k [] = true
+from k (r ∷ rs) = leb k (r .0) && from k rs
 
-none-holds : (rs : List (ℕ × Bool)) → T (above rs) → firstHolding rs ≡ 0 → (i : ℕ) → getD rs i (0, false) .1 ≡ false
+none-holds : (rs : List (ℕ × Bool)) → T (from 1 rs) → firstHolding rs ≡ 0 → (i : ℕ) → getD rs i (0, false) .1 ≡ false
 none-holds [] t e i = refl
-none-holds ((k, true) ∷ rs) t e i = absurd (omega (arith, ltb-true 0 k (is-true _ (left (ltb 0 k) (above rs) t))))
+none-holds ((k, true) ∷ rs) t e i = absurd (omega (arith, leb-true 1 k (is-true _ (left (leb 1 k) (from 1 rs) t))))
 none-holds ((k, false) ∷ rs) t e zero = refl
-none-holds ((k, false) ∷ rs) t e (suc i) = none-holds rs (right (ltb 0 k) (above rs) t) e i
+none-holds ((k, false) ∷ rs) t e (suc i) = none-holds rs (right (leb 1 k) (from 1 rs) t) e i
 
 -- an accepted write has passed each of the tests
 pub accepted-passed : (c : Card) (w : Write) (n : ℕ) → refusal c w n ≡ 0 → (i : ℕ) → getD (rows c w n) i (0, false) .1 ≡ false
@@ -34,10 +36,6 @@ unfolding refusal
 accepted-passed c w n e i = none-holds (rows c w n) tt e i
 
 -- the numbers of the rows rise
-abbrev from : ℕ → List (ℕ × Bool) → Bool
-from k [] = true
-from k (r ∷ rs) = leb k (r .0) && from k rs
-
 abbrev rise : List (ℕ × Bool) → Bool
 rise [] = true
 rise (r ∷ rs) = from (r .0) rs && rise rs
@@ -64,7 +62,7 @@ first-holds [] h = h refl
 first-holds ((k, true) ∷ rs) h = inl (refl, refl)
 first-holds ((k, false) ∷ rs) h = inr (first-holds rs h)
 
--- the lowest number that applies: that of a test that holds, and no test that holds has a lower one; 0 where none holds
+-- the lowest number that applies: that of a test that holds, and no test that holds has a lower one; 0 exactly where none holds
 pub record Lowest (rs : List (ℕ × Bool)) (k : ℕ) : Type 0 where
   pub none : k ≡ 0 → (i : ℕ) → getD rs i (0, false) .1 ≡ false
   pub one : (k ≡ 0 → ⊥) → Holds rs k
@@ -80,21 +78,17 @@ lowest c w n =
       least = first-lowest (rows c w n) tt;
     }
 
-first-false : (a b : Bool) → a || b ≡ false → a ≡ false
-first-false true b e = e
-first-false false b e = refl
-
 -- the raster operation is one of the sixteen
 pub accepted-raster : (c : Card) (w : Write) (n : ℕ) → refusal c w n ≡ 0 → c .registers .raster < 16
 unfolding badRaster
 accepted-raster c w n e =
-    let l : c .registers .raster ≤ 15 = ltb-false 15 (c .registers .raster) (first-false _ _ (first-false _ _ (accepted-passed c w n e 5))) in
+    let l : c .registers .raster ≤ 15 = ltb-false 15 (c .registers .raster) (neither _ _ (neither _ _ (accepted-passed c w n e 5) .0) .0) in
     omega arith
 
 -- and the space is frame or register
 pub accepted-space : (c : Card) (w : Write) (n : ℕ) → refusal c w n ≡ 0 → w .space ≤ 1
 unfolding badSpace
-accepted-space c w n e = ltb-false 1 (w .space) (first-false _ _ (accepted-passed c w n e 1))
+accepted-space c w n e = ltb-false 1 (w .space) (neither _ _ (accepted-passed c w n e 1) .0)
 
 module _ (c : Card) (w : Write) where
   module _ (v : List ℕ) (e : refusal c w (length v) ≡ 0) where

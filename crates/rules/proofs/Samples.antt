@@ -1,4 +1,4 @@
--- Samples S1 to S11 of the scope paper, each as it stands there, computed from the definitions. Assumes nothing.
+-- Samples S1 to S11 of the scope paper, each as it stands there, and two more for its slips, computed from the definitions. Assumes nothing.
 use mathlib.Core.Path.{_≡_, refl}
 use mathlib.Core.List.{List, [], _∷_, _++_}
 use Prim.Native.Nat.{ℕ}
@@ -103,12 +103,20 @@ abbrev pub Overlap : Type 0
 Overlap =
     pictureAfter (copying ++ (frame 0 0xFFFFFFFF ∷ frame 8 0xFFFFFFFF ∷ [])) (resetCard 0) ramp ≡ listed 8 (λ i. i) ++ (listed 32 (λ i. i) ++ zeros 24)
 
-computed : (S1 × S2 × S3 × S4 × S5 × S6 × S7 × S8 × S9 × S10 × S11) × Overlap
+-- and the 64-byte copy leaves the held plane of its destination as it was
+abbrev pub HeldCopy : Type 0
+HeldCopy =
+    pictureAfter (reg 0x0160 0 ∷ reg 0x0164 64 ∷ []) (resetCard 0x80) (zeros 64 ++ replicate 64 0xFF) ≡ zeros 64 ++ replicate 64 0x80
+
+computed : (S1 × S2 × S3 × S4 × S5 × S6 × S7 × S8 × S9 × S10 × S11) × Overlap × HeldCopy
 unfolding cardAfter pictureAfter refusal badLength badSpace badLanes noRegister badMode badRaster offBoundary outside unloaded modeOf frameSpan spansOf spanned effectiveBy count operation layers picture sourced afterFrame afterRegister next resetCard rowAt rowIn table stores byte from before drawn drawnAll counted listed made number result bit
-computed = (((refl, refl), (refl, refl), refl, (refl, refl), refl, (refl, refl), refl, (refl, refl), s9, (refl, refl, refl), refl), refl)
+computed = (((refl, refl), (refl, refl), refl, (refl, refl), refl, (refl, refl), refl, (refl, refl), s9, (refl, refl, refl), refl), refl, refl)
 
 pub samples : S1 × S2 × S3 × S4 × S5 × S6 × S7 × S8 × S9 × S10 × S11
 samples = computed .0
 
 pub overlap : Overlap
 overlap = computed .1
+
+pub held-copy : HeldCopy
+held-copy = computed .2

@@ -15,6 +15,10 @@ pub not-not : (b : Bool) → not (not b) ≡ b
 not-not true = refl
 not-not false = refl
 
+pub neither : (a b : Bool) → a || b ≡ false → (a ≡ false) × (b ≡ false)
+neither true b e = (cc, cc)
+neither false b e = (refl, e)
+
 -- what a callee's answer says of the test that it answers
 pub said : {r b v : Bool} → r ≡ b → r ≡ v → b ≡ v
 said e t = sym e ∙ t

@@ -44,7 +44,7 @@ drawnAll-op a b [] v e = refl
 drawnAll-op a b (f ∷ fs) v e = drawnAll-op a b fs (drawn a f v) e ∙ ap (λ (u : List ℕ). drawnAll b fs u) (drawn-op a b f v e)
 
 -- 5 is no operation
-pub drawnAll-five : (fs : List (ℕ → Fragment)) (v : List ℕ) → Bytes v → drawnAll 5 fs v ≡ v
+drawnAll-five : (fs : List (ℕ → Fragment)) (v : List ℕ) → Bytes v → drawnAll 5 fs v ≡ v
 unfolding drawnAll
 drawnAll-five [] v b = refl
 drawnAll-five (f ∷ fs) v b = ap (λ (u : List ℕ). drawnAll 5 fs u) (drawn-five f v b) ∙ drawnAll-five fs v b

@@ -10,7 +10,7 @@ use lib.ListN.{length, getD, take, drop, set, length-drop, drop-of-length-le}
 use lib.Seq.{ext-getD, length-take-le, getD-take, getD-drop}
 use Rattle.span.specs.Fragments.{listed}
 
-pub listed-length : (n : ℕ) (f : ℕ → ℕ) → length (listed n f) ≡ n
+listed-length : (n : ℕ) (f : ℕ → ℕ) → length (listed n f) ≡ n
 unfolding listed
 listed-length zero f = refl
 listed-length (suc n) f = ap suc (listed-length n (λ k. f (suc k)))

@@ -1,4 +1,4 @@
--- One byte under one fragment, and the fragments `before` and `from`. Assumes nothing.
+-- One byte under one fragment, and the fragments `before` and `from`. `painted-five` assumes an old byte.
 use mathlib.Core.Path.{_≡_, refl, ap, sym, _∙_}
 use mathlib.Core.Bool.{Bool, cond}
 use Prim.Native.Nat.{ℕ, _-_, _≤_, _<_}

@@ -35,14 +35,18 @@ module _ (mask : ℕ → ℕ) (s : Span) where
   unfolding spanned
   spanned-past p h = from-past (s .first) _ (omega arith) ∙ before-past (s .width) (pixel mask s) (omega arith)
 
-  -- a span none of whose pixels is enabled does nothing
-  pub spanned-off : ((j : ℕ) → j < s .width → s .on j ≡ false) → (p : ℕ) → spanned mask s p ≡ stays
-  spanned-off e p = go (decLt p (s .first)) (decLt p (s .first + s .width))
+  -- where its pixel is not enabled, if one lies there, it does nothing
+  pub spanned-disabled : (p : ℕ) → (p - s .first < s .width → s .on (p - s .first) ≡ false) → spanned mask s p ≡ stays
+  spanned-disabled p e = go (decLt p (s .first)) (decLt p (s .first + s .width))
     where
       go : Dec (p < s .first) → Dec (p < s .first + s .width) → spanned mask s p ≡ stays
       go (yes h) k = spanned-before p h
-      go (no h) (yes k) = spanned-in p (p - s .first) (omega arith) (omega arith) ∙ rw (e (p - s .first) (omega arith))
+      go (no h) (yes k) = spanned-in p (p - s .first) (omega arith) (omega arith) ∙ rw (e (omega arith))
       go (no h) (no k) = spanned-past p (omega arith)
+
+  -- so does a span none of whose pixels is enabled
+  pub spanned-off : ((j : ℕ) → j < s .width → s .on j ≡ false) → (p : ℕ) → spanned mask s p ≡ stays
+  spanned-off e p = spanned-disabled p (e (p - s .first))
 
 -- spans that agree pixel by pixel do the same at each address
 pub spanned-same : (mask : ℕ → ℕ) (s t : Span) → s .first ≡ t .first → s .width ≡ t .width → ((j : ℕ) → j < t .width → s .on j ≡ t .on j)
@@ -137,7 +141,7 @@ module _ (s : Strokes) (op : ℕ) (mask : ℕ → ℕ) (p : Span) (d : Draws s o
       go (no h) = before-past (s .width) (stroke s) (rw (d .wide) (omega arith)) ∙ sym (before-past (p .width) (pixel mask p) (omega arith))
 
   -- the picture that they leave
-  pub draws-picture : (v : List ℕ) → drawn (s .op) (from (p .first) (before (s .width) (stroke s))) v ≡ drawn op (spanned mask p) v
+  draws-picture : (v : List ℕ) → drawn (s .op) (from (p .first) (before (s .width) (stroke s))) v ≡ drawn op (spanned mask p) v
   unfolding spanned
   draws-picture v =
       ap (λ (o : ℕ). drawn o (from (p .first) (before (s .width) (stroke s))) v) (d .under)
@@ -150,7 +154,7 @@ module _ (s : Strokes) (op : ℕ) (mask : ℕ → ℕ) (p : Span) (d : Draws s o
           from-past (p .first) _ (omega arith) ∙ (inside (a - p .first) ∙ sym (from-past (p .first) _ (omega arith)))
 
   -- and the pixels that they count, where the span lies inside
-  pub draws-count : (n : ℕ) → p .first + p .width ≤ n → counted (min (s .width) (n - p .first)) (enabled s) ≡ enabledIn p
+  draws-count : (n : ℕ) → p .first + p .width ≤ n → counted (min (s .width) (n - p .first)) (enabled s) ≡ enabledIn p
   draws-count n h =
       let e : min (s .width) (n - p .first) ≡ p .width = omega (arith, d .wide) in
       ap (λ (k : ℕ). counted k (enabled s)) e ∙ counted-same (p .width) (d .enables)

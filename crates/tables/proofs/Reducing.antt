@@ -1,4 +1,4 @@
--- A fragment reduced to two bytes paints what the fragment paints, and a pixel that is not enabled is one under the mask 0. Assumes nothing.
+-- A fragment reduced to two bytes paints what the fragment paints, and a pixel that is not enabled is one under the mask 0. Both assume an old byte.
 use mathlib.Core.Path.{_≡_, refl, ap, _∙_}
 use mathlib.Core.Bool.{Bool, true, false, cond}
 use Prim.Native.Nat.{ℕ, _*_, _<_}

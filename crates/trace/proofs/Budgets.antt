@@ -2,7 +2,7 @@
 use mathlib.Core.Path.{_≡_, refl, ap, sym, _∙_, subst}
 use mathlib.Core.Bool.{Bool, true, false, cond}
 use mathlib.Core.List.{List, [], _∷_}
-use Prim.Native.Nat.{ℕ, zero, suc, _+_, _-_}
+use Prim.Native.Nat.{ℕ, zero, suc, _+_, _≤_}
 use native.Mathlib.Nat.{add-zero, zero-add, add-assoc, suc-add}
 use native.Mathlib.Omega.{arith}
 use lib.Dec.{eqb}
@@ -106,16 +106,16 @@ module _ (part : List ℕ) (a b : ℕ) (c : Card) (v : List ℕ) where
     p : Runs (writes part) a (nothing 0 c v) k first
     p = runs (writes part) a (nothing 0 c v)
 
-    whole-count : k + (entryCount part - k) ≡ entryCount part
-    whole-count = omega (arith, runs-within-entries p, length-writes part)
+    within : k ≤ entryCount part
+    within = omega (arith, runs-within-entries p, length-writes part)
 
     second : run (unread part (first .applied)) b (first .card) (first .picture) ≡ ran (drop k (writes part)) b (fresh first)
     second =
         ap (λ (n : ℕ). run (unread part n) b (first .card) (first .picture)) (counts p ∙ zero-add k)
         ∙ run-good (unread part k) b (first .card) (first .picture)
-        (left-formed part (formed part d) k (entryCount part - k) whole-count)
+        (left-formed part (formed part d) k within)
         (ap badLength (keeps-length p) ∙ e)
-        ∙ ap (λ (ws : List Write). ran ws b (fresh first)) (left-writes part (formed part d) k (entryCount part - k) whole-count)
+        ∙ ap (λ (ws : List Write). ran ws b (fresh first)) (left-writes part (formed part d) k within)
 
     went : Whole (run part a c v)
     went = subst Whole (sym (run-good part a c v d e)) (run-good part (a + b) c v d e ∙ split b refl p ∙ ap (follows first) (sym second))

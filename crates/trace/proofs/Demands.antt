@@ -4,7 +4,7 @@
 use mathlib.Core.Path.{_≡_, refl, ap, sym, _∙_}
 use mathlib.Core.Bool.{Bool, true, false}
 use mathlib.Core.List.{List, [], _∷_}
-use Prim.Native.Nat.{ℕ, suc, _+_, _-_, _*_, _≤_, _<_}
+use Prim.Native.Nat.{ℕ, suc, _+_, _*_, _≤_, _<_}
 use native.Mathlib.Nat.{zero-add}
 use native.Mathlib.Omega.{arith}
 use lib.ListN.{length, getD, take, drop, drop-of-length-le}
@@ -155,8 +155,8 @@ module _ (part : List ℕ) (b : ℕ) (c : Card) (v : List ℕ) where
       let k : ℕ = steps ws b (nothing 0 c v) in
       let p : Runs ws b (nothing 0 c v) k (ran ws b (nothing 0 c v)) = runs ws b (nothing 0 c v) in
       let far : ran ws b (nothing 0 c v) .applied ≡ k = counts p ∙ zero-add k in
-      let whole : k + (entryCount part - k) ≡ entryCount part = omega (arith, runs-within-entries p, length-writes part) in
-      rw (run-good part b c v d e, far, left-writes part (formed part d) k (entryCount part - k) whole, ← length-writes part) (ends-so refl p)
+      let within : k ≤ entryCount part = omega (arith, runs-within-entries p, length-writes part) in
+      rw (run-good part b c v d e, far, left-writes part (formed part d) k within, ← length-writes part) (ends-so refl p)
 
   -- what `unread` hands back after a run is the scope paper's unread part, for every part, budget, card and picture
   pub unread-part : UnreadPart part b c v (run part b c v) (unread part (run part b c v .applied))

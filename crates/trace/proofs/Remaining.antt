@@ -2,7 +2,7 @@
 use mathlib.Core.Path.{_≡_, ap, sym, _∙_}
 use mathlib.Core.Bool.{true}
 use mathlib.Core.List.{List, []}
-use Prim.Native.Nat.{ℕ, zero, suc, _+_, _*_, _<_}
+use Prim.Native.Nat.{ℕ, zero, suc, _+_, _-_, _*_, _<_, _≤_}
 use native.Mathlib.Nat.{add-zero, zero-add, suc-add}
 use native.Mathlib.Omega.{arith}
 use lib.Dec.{eqb}
@@ -36,7 +36,13 @@ drop-paddedAt v (suc k) m a t =
     ap (λ (n : ℕ). paddedAt v n m) (sym e) ∙ drop-paddedAt v k m (a + 12) rest
 
 -- what a run has left unread can be run
-module _ (part : List ℕ) (f : Formed part) (k m : ℕ) (e : k + m ≡ entryCount part) where
+module _ (part : List ℕ) (f : Formed part) (k : ℕ) (within : k ≤ entryCount part) where
+  abbrev m : ℕ
+  m = entryCount part - k
+
+  e : k + m ≡ entryCount part
+  e = omega arith
+
   left-count : entryCount (unread part k) ≡ m
   unfolding unread
   left-count = omega (arith, length-drop (12 * k) part, f .whole)

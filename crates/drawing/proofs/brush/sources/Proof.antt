@@ -1,5 +1,5 @@
 -- `drawing::brush::sources` meets its contract: each arm is the definition at that paint. Assumes nothing.
-use mathlib.Core.Path.{refl, sym}
+use mathlib.Core.Path.{sym}
 use mathlib.Core.Bool.{false≢true}
 use Rattle.drawing.proofs.Sources.{stippled-at, tiled-at, first-half-at}
 use borrow.Author.Needs.{needs}
