@@ -28,7 +28,7 @@ frame-width BlockFill c w = omega arith
 frame-width Copy c w = omega arith
 frame-width Unlisted c w = omega arith
 
--- what holds of no span and of any one of so many pixels holds of every write's spans
+-- what holds of no span, and of any one span of at most 2,048 pixels, holds of every write's spans
 pub one-or-none : (p : List Span → Type 0) (c : Card) (w : Write) → p [] → ((s : Span) → s .width ≤ 2048 → p (s ∷ [])) → p (spansOf c w)
 unfolding spansOf
 one-or-none p c w none one =
