@@ -50,7 +50,7 @@ case_is l8-004 640 0 468
 case_is l8-012 64 0 830
 case_is l8-015e 72 8 4080
 case_is l8-021 512 0 4076
-case_is x8-000-doc01 512 0 988
+case_is x8-000-ask1 512 0 988
 case_is x8-009 512 0 477
 case_is x8-015 512 0 491
 

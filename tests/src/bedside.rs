@@ -83,6 +83,18 @@ const BEAT: [(u32, u32); 64] = [
     (170, 2),
 ];
 
+/// A diagonal hatch: the fill mask of each of eight rows.
+const HATCH: [u32; 8] = [
+    0x0303_0303,
+    0x0606_0606,
+    0x0C0C_0C0C,
+    0x1818_1818,
+    0x3030_3030,
+    0x6060_6060,
+    0xC0C0_C0C0,
+    0x8181_8181,
+];
+
 /// A trace as it is written; the first refusal is kept.
 struct Recorder {
     buffer: Vec<u8>,
@@ -129,6 +141,12 @@ impl Recorder {
     }
 }
 
+/// From here on fills draw every pixel in the foreground colour.
+fn solid(to: &mut Recorder) {
+    to.register(MODE, mode::OPAQUE_FILL);
+    to.register(FILL_MASK, 0xFFFF_FFFF);
+}
+
 /// The alarm border, four pixels wide, in plane 7 alone.
 fn border(to: &mut Recorder) {
     to.register(PLANE_MASK, 0x8080_8080);
@@ -153,8 +171,21 @@ fn heartbeat(to: &mut Recorder) {
     }
 }
 
+/// A hatched band, each row in two fills side by side: from column 17, low bits 1, and from column 114, low bits 2. The hatch goes on
+/// across the seam, since both addresses are 16 more than a multiple of 32.
+fn hatched(to: &mut Recorder) {
+    to.register(MODE, mode::TRANSPARENT_FILL);
+    to.register(FOREGROUND, 0x5858_5858);
+    for (y, mask) in (208..232).zip(HATCH.into_iter().cycle()) {
+        to.register(FILL_MASK, mask);
+        to.filled(17, y, 97, 1);
+        to.filled(114, y, 126, 1);
+    }
+}
+
 /// Two upright lines and a bar between them, by exclusive-or.
 fn caliper(to: &mut Recorder) {
+    solid(to);
     to.register(RASTER_OPERATION, 6);
     to.register(FOREGROUND, 0x4040_4040);
     to.filled(31, 60, 1, 130);
@@ -165,11 +196,11 @@ fn caliper(to: &mut Recorder) {
 /// The bytes of the sample trace.
 fn trace_bytes() -> Result<Vec<u8>, String> {
     let mut to = Recorder::new();
-    to.register(MODE, mode::OPAQUE_FILL);
-    to.register(FILL_MASK, 0xFFFF_FFFF);
+    solid(&mut to);
     border(&mut to);
     screen(&mut to);
     heartbeat(&mut to);
+    hatched(&mut to);
     caliper(&mut to);
     if to.refused != 0 {
         return Err(format!("the sample trace is refused: {}", to.refused));

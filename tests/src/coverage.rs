@@ -10,8 +10,8 @@ const OTHER_REGISTER: usize = FIRST_REGISTER + OFFSETS.len();
 const OTHER_SPACE: usize = OTHER_REGISTER + 1;
 const ROWS: usize = OTHER_SPACE + 1;
 
-/// Situations that the paper's easy slips are about.
-const SITUATIONS: [&str; 11] = [
+/// Situations that the paper's easy slips and its change requests are about.
+const SITUATIONS: [&str; 14] = [
     "one-shot mask, accepted frame write",
     "one-shot mask, refused frame write",
     "copy, source read",
@@ -23,6 +23,9 @@ const SITUATIONS: [&str; 11] = [
     "copy mark over 1, destination drawn",
     "64-byte mark over 1, destination drawn",
     "any mark over 1, refused",
+    "opaque fill, the slid mask another",
+    "transparent fill, the slid mask another",
+    "block fill, the slid mask another",
 ];
 
 pub struct Coverage {
@@ -64,6 +67,8 @@ impl Coverage {
         self.writes[row(card, write)][number as usize] += 1;
         let frame = write.space == FRAME;
         let copy = frame && card.mode == mode::COPY && number == 0;
+        let slid = card.data.rotate_right(write.data >> 16 & 3) != card.data;
+        let filled = |code| frame && card.mode == code && number == 0 && slid;
         let destination = write.space == REGISTER && write.address == 0x0164 && number == 0;
         let met = [
             frame && card.marked != 0 && number == 0,
@@ -77,6 +82,9 @@ impl Coverage {
             copy && card.writing > 1,
             destination && card.loaded > 1,
             number != 0 && card.marked.max(card.writing).max(card.loaded) > 1,
+            filled(mode::OPAQUE_FILL),
+            filled(mode::TRANSPARENT_FILL),
+            filled(mode::BLOCK_FILL),
         ];
         for (counter, met) in self.situations.iter_mut().zip(met) {
             *counter += u64::from(met);

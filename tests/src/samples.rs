@@ -91,7 +91,8 @@ const SAMPLES: &[Sample] = &[
             Step(1, 15, 0x0080, 0xF, 0, Some(0)),
             Step(0, 15, 0, 0x00020005, 0, Some(6)),
         ],
-        after: &[(2, &[1, 1, 1, 1]), (6, &[2, 2])],
+        // The reading that Ask 1 gives it.
+        after: &[(2, &[1, 1]), (4, &[2, 2, 2, 2])],
         ..PLAIN
     },
     Sample {

@@ -7,3 +7,5 @@ pub mod Witness
 pub mod Quiet
 pub mod Caliper
 pub mod CaliperSample
+pub mod Seam
+pub mod Hatch

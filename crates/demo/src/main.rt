@@ -16,6 +16,8 @@ const FILL_MASK: u32 = 0x0080;
 
 const OPAQUE_FILL: u32 = 0x21;
 
+const TRANSPARENT_FILL: u32 = 0x45;
+
 const XOR: u32 = 6;
 
 // One beat of the trace: for each of 64 columns, eight to a line, the top row and the number of rows.
@@ -39,6 +41,18 @@ const ROWS: [[u8; 8]; 8] = [
     [3, 4, 5, 5, 4, 4, 4, 2],
     [3, 2, 2, 2, 2, 2, 2, 2],
     [2, 2, 2, 2, 2, 2, 2, 2],
+];
+
+// A diagonal hatch: the fill mask of each of eight rows.
+const HATCH: [u32; 8] = [
+    0x03030303,
+    0x06060606,
+    0x0C0C0C0C,
+    0x18181818,
+    0x30303030,
+    0x60606060,
+    0xC0C0C0C0,
+    0x81818181,
 ];
 
 fn register(card: Card, offset: u32, data: u32, vram: &mut [u8]) -> Card {
@@ -124,6 +138,18 @@ fn trace(card: Card, vram: &mut [u8]) -> Card {
     card
 }
 
+// A hatched band of 24 rows: `width` + 1 columns from column x on, one fill a row.
+fn hatch(card: Card, x: u8, width: u8, vram: &mut [u8]) {
+    let card = register(card, MODE, TRANSPARENT_FILL, vram);
+    let mut card = register(card, FOREGROUND, 0x58585858, vram);
+    let mut i: u32 = 0;
+    while i < 24 {
+        card = register(card, FILL_MASK, HATCH[(i % 8) as usize], vram);
+        card = row(card, x, i + 208, width, vram);
+        i += 1;
+    }
+}
+
 // The caliper's marks: two upright lines and a bar between them.
 fn marks(card: Card, vram: &mut [u8]) -> Card {
     let card = filled(card, 31, 60, 0, 130, vram);
@@ -166,6 +192,24 @@ fn bedside(vram: &mut [u8; 65536]) -> Card {
     trace(card, vram)
 }
 
+// The band in two fills side by side: from column 17, low bits 1, and from column 114, low bits 2. The hatch goes on across the seam,
+// since both addresses are 16 more than a multiple of 32: one fill across both columns draws the same.
+fn hatched(card: Card, vram: &mut [u8; 65536]) {
+    let before = *vram;
+    let mut whole = *vram;
+    hatch(card, 17, 96, vram);
+    hatch(card, 114, 125, vram);
+    hatch(card, 17, 222, &mut whole);
+    line(
+        b"hatch of two fills side by side, pixels changed: ",
+        counting::differing(vram, &before),
+    );
+    line(
+        b"the same hatch in one fill across both, pixels that differ: ",
+        counting::differing(vram, &whole),
+    );
+}
+
 // The caliper, drawn and taken off from one card.
 fn measured(card: Card, vram: &mut [u8; 65536]) {
     let before = *vram;
@@ -188,6 +232,7 @@ fn measured(card: Card, vram: &mut [u8; 65536]) {
 fn screen(vram: &mut [u8; 65536]) {
     alarm(vram);
     let card = bedside(vram);
+    hatched(card, vram);
     measured(card, vram);
 }
 

@@ -1,7 +1,7 @@
 // The plan of a frame write: one arm for each mode.
 ghost use mathlib.Core.Path.{_≡_};
 ghost use Rattle.rules.specs.Modes.{modeOf};
-ghost use Rattle.plan.specs.Plan.{framePlan, drawingPlan, copyPlan, halvedPlan};
+ghost use Rattle.plan.specs.Plan.{framePlan, drawingPlan, copyPlan, halvedPlan, rotated as rotatedBy};
 ghost use Rattle.plan.specs.declared.Paint.the-variants.{Stippled, Tiled};
 use bounds::ALL_LANES;
 use card::CLEAR;
@@ -18,6 +18,9 @@ use rules::Mode;
 // The operation that takes the source.
 const COPY: u8 = 3;
 
+// One more than the largest word.
+const WORD: u64 = 4294967296;
+
 // Of any frame write.
 pub fn plan(card: Card, w: Write) -> Plan
     ensures { λ r. ⌜ r ≡ framePlan (modeOf (card .registers .mode)) card w ⌝ }
@@ -26,14 +29,15 @@ pub fn plan(card: Card, w: Write) -> Plan
     let m = modes::mode_of(registers.mode);
     let foreground = registers.foreground;
     let background = registers.background;
-    let fill = registers.fill;
     let op = (registers.raster % 16) as u8;
     let pixels = card.mask.bits;
     let data = w.data;
     let address = w.address as usize;
-    // of a fill: data bits 17:16 are added to the address, bits 10:0 are the pixels less one
-    let first = address + (data / 65536 % 4) as usize;
+    // of a fill: data bits 17:16 are added to the address and slide the mask, bits 10:0 are the pixels less one
+    let low = data / 65536 % 4;
+    let first = address + low as usize;
     let width = data % 2048 + 1;
+    let fill = rotated(registers.fill, low);
     let faults = Faults {
         lanes: w.lanes != ALL_LANES,
         register: false,
@@ -81,6 +85,15 @@ pub fn plan(card: Card, w: Write) -> Plan
             drawing(unlisted, 0, 0, op, 0, Paint::Half)
         }
     }
+}
+
+// The word with its bit `low` first: 32 bits of the word and itself above it.
+fn rotated(x: u32, low: u32) -> u32
+    ensures { λ r. ⌜ r ≡ rotatedBy x low ⌝ }
+{
+    let wide = x as u64;
+    let twice = wide * WORD + wide;
+    ((twice >> (low % 32)) % WORD) as u32
 }
 
 // A frame write in any mode but copy.

@@ -21,14 +21,14 @@ use Rattle.card.specs.Registers.{rowAt, isSet, _is_}
 use Rattle.card.specs.declared.Card.{Card}
 use Rattle.card.specs.declared.Write.{Write}
 use Rattle.card.specs.declared.Register.the-variants.{CopySource, CopyDestination}
-use Rattle.rules.specs.Modes.{modeOf, foreground, background, effective, registerOf, registerSpans, frameSpan, spansOf}
+use Rattle.rules.specs.Modes.{modeOf, foreground, background, effective, fillFirst, registerOf, registerSpans, frameSpan, spansOf}
 use Rattle.plan.specs.Plan.{framePlan, registerPlanBy, registerPlan, planOf, planned, isWhole}
 use Rattle.rules.specs.Refusal.{past}
 use Rattle.rules.specs.declared.Mode.{Mode}
 use Rattle.rules.specs.declared.Mode.the-variants.{Simple, OpaqueStipple, TransparentStipple, OpaqueFill, TransparentFill, BlockStipple, BlockFill, Copy, Unlisted}
 use Rattle.plan.specs.declared.Plan.{Plan}
 use Rattle.rules.proofs.Tests.{or-false}
-use Rattle.plan.proofs.WordBits.{first-turn, bit-word, bit-both}
+use Rattle.plan.proofs.WordBits.{first-turn, bit-word, bit-both, bit-rotated}
 
 gate : (b : Bool) (x j : ℕ) → j < 32 → bit (cond b x 0) (j % 32) ≡ b && bit x j
 gate true x j h = first-turn x j h
@@ -62,9 +62,9 @@ module _ (c : Card) (w : Write) where
   plan-on OpaqueStipple j h = first-turn _ j h
   plan-on TransparentStipple j h = first-turn _ j h
   plan-on OpaqueFill j h = bit-word j
-  plan-on TransparentFill j h = refl
+  plan-on TransparentFill j h = bit-rotated _ _ j
   plan-on BlockStipple j h = first-turn _ j h
-  plan-on BlockFill j h = refl
+  plan-on BlockFill j h = bit-rotated _ _ j
   plan-on Copy j h = gate (isSet (c .copier .writing)) (w .«data») j h
   plan-on Unlisted j h = absurd (not-suc-le-zero h)
 
@@ -73,7 +73,7 @@ module _ (c : Card) (w : Write) where
   plan-takes Simple j h = let e : (0 + j) % 4 ≡ j = omega arith in tiled-solid (w .«data») (0 + j) ∙ ap (λ (t : ℕ). byte (w .«data») t) e
   plan-takes OpaqueStipple j h = ap (λ (b : Bool). cond b (foreground c (w .address + j)) (background c (w .address + j))) (first-turn _ j h)
   plan-takes TransparentStipple j h = tiled-solid (c .registers .foreground) _
-  plan-takes OpaqueFill j h = refl
+  plan-takes OpaqueFill j h = ap (λ (b : Bool). cond b (foreground c (fillFirst w + j)) (background c (fillFirst w + j))) (bit-rotated _ _ j)
   plan-takes TransparentFill j h = tiled-solid (c .registers .foreground) _
   plan-takes BlockStipple j h = tiled-blocks (c .registers .block) _
   plan-takes BlockFill j h = tiled-blocks (c .registers .block) _

@@ -6,7 +6,7 @@ use Prim.Native.Nat.{ℕ, _+_, _-_, _/_, _%_, _^_}
 use lib.Bits.{bitAnd}
 use lib.Dec.{eqb, leb, ltb}
 use lib.ListN.{length, getD, take, drop}
-use Rattle.raster.specs.Pixel.{bit}
+use Rattle.raster.specs.Pixel.{bit, number}
 use Rattle.span.specs.Fragments.{byte}
 use Rattle.span.specs.Spans.{Span, span}
 use Rattle.card.specs.Registers.{rowAt, isSet, _is_}
@@ -16,7 +16,7 @@ use Rattle.card.specs.declared.Copier.{Copier}
 use Rattle.card.specs.declared.Write.{Write}
 use Rattle.card.specs.declared.Register.{Register}
 use Rattle.card.specs.declared.Register.the-variants.{Mode as ModeRegister, RasterOperation, PixelShift, CopySource, CopyDestination, Missing}
-use Rattle.rules.specs.Modes.{modeOf, unlisted, isSimple, isBlock, isCopy, fillFirst, frameSpan, registerOf}
+use Rattle.rules.specs.Modes.{modeOf, unlisted, isSimple, isBlock, isCopy, fillLow, fillFirst, frameSpan, registerOf}
 use Rattle.rules.specs.Refusal.{badLength, badSpace, firstHolding}
 use Rattle.rules.specs.Writes.{usedUp, sourced}
 use Rattle.rules.specs.declared.Mode.{Mode}
@@ -55,15 +55,23 @@ registerFaults g c w =
       source = g is CopyDestination && not (isSet (c .copier .loaded));
     }
 
+-- the word x rotated, its bit low first
+unfoldable pub rotated : (x low : ℕ) → ℕ
+rotated x low = number 32 (λ k. bit x ((k + low) % 32))
+
+-- the fill mask of a write, so that pixel j goes by bit j mod 32
+abbrev fillOf : Card → Write → ℕ
+fillOf c w = rotated (c .registers .fill) (fillLow w)
+
 -- the word whose bit j mod 32 enables pixel j
 abbrev pub enableOf : Mode → Card → Write → ℕ
 enableOf Simple c w = bitAnd (w .lanes) (c .mask .bits)
 enableOf OpaqueStipple c w = c .mask .bits
 enableOf TransparentStipple c w = w .«data»
 enableOf OpaqueFill c w = ones
-enableOf TransparentFill c w = c .registers .fill
+enableOf TransparentFill c w = fillOf c w
 enableOf BlockStipple c w = w .«data»
-enableOf BlockFill c w = c .registers .fill
+enableOf BlockFill c w = fillOf c w
 enableOf Copy c w = cond (isSet (c .copier .writing)) (w .«data») 0
 enableOf Unlisted c w = 0
 
@@ -78,7 +86,7 @@ abbrev pub paintOf : Mode → Card → Write → Paint
 paintOf Simple c w = solid (w .«data») 0
 paintOf OpaqueStipple c w = Stippled (w .«data») (c .registers .foreground) (c .registers .background) (w .address)
 paintOf TransparentStipple c w = solid (c .registers .foreground) (w .address)
-paintOf OpaqueFill c w = Stippled (c .registers .fill) (c .registers .foreground) (c .registers .background) (fillFirst w)
+paintOf OpaqueFill c w = Stippled (fillOf c w) (c .registers .foreground) (c .registers .background) (fillFirst w)
 paintOf TransparentFill c w = solid (c .registers .foreground) (fillFirst w)
 paintOf BlockStipple c w = blocks c (w .address)
 paintOf BlockFill c w = blocks c (fillFirst w)

@@ -1,20 +1,32 @@
 -- Bits of a number, and numbers made of bits, over any width. Assumes nothing.
 use mathlib.Core.Path.{_≡_, refl, ap, sym, _∙_}
 use mathlib.Core.Bool.{Bool, true, false}
-use Prim.Native.Nat.{ℕ, zero, suc, _+_, _*_, _/_, _%_, _^_, _<_, suc-le-suc}
+use Prim.Native.Nat.{ℕ, zero, suc, _+_, _-_, _*_, _/_, _%_, _^_, _<_, suc-le-suc}
 use native.Mathlib.Nat.{le-of-suc-le-suc, not-suc-le-zero, div-one, zero-lt-suc}
 use native.Mathlib.Omega.{arith}
 use lib.Dec.{eqb}
-use lib.Pow.{shr-shr}
+use lib.Pow.{field, mod-mod-pow, shr-shr}
 use Rattle.raster.specs.Pixel.{bit, value, number}
 
 pub bit-zero : (n : ℕ) → bit n 0 ≡ eqb (n % 2) 1
 unfolding bit
 bit-zero n = simp div-one
 
-bit-suc : (n k : ℕ) → bit n (suc k) ≡ bit (n / 2) k
+-- the low w bits of a number are those of the remainder
+pub bit-low : (w n k : ℕ) → k < w → bit (n % 2 ^ w) k ≡ bit n k
 unfolding bit
-bit-suc n k = ap (λ (m : ℕ). eqb (m % 2) 1) (ap (λ (e : ℕ). n / 2 ^ e) (omega arith) ∙ sym (shr-shr n 1 k))
+bit-low w n k h =
+    let e : w ≡ w - suc k + 1 + k = omega arith in
+    ap (λ (m : ℕ). eqb (m % 2) 1) (ap (λ (v : ℕ). n % 2 ^ v / 2 ^ k) e ∙ field n (w - suc k + 1) k)
+    ∙ ap (λ (m : ℕ). eqb m 1) (mod-mod-pow (n / 2 ^ k) (w - suc k) 1)
+
+-- and the bits above are those of the quotient
+pub bit-high : (w n k : ℕ) → bit (n / 2 ^ w) k ≡ bit n (w + k)
+unfolding bit
+bit-high w n k = ap (λ (m : ℕ). eqb (m % 2) 1) (shr-shr n w k)
+
+bit-suc : (n k : ℕ) → bit n (suc k) ≡ bit (n / 2) k
+bit-suc n k = ap (λ (e : ℕ). bit n e) (omega arith) ∙ sym (bit-high 1 n k)
 
 low : (b : Bool) (m : ℕ) → (value b + 2 * m) % 2 ≡ value b
 low true m = omega arith

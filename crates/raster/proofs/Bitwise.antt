@@ -1,12 +1,11 @@
 -- Bit k of the machine's bitwise operations, at any width. Assumes nothing.
-use mathlib.Core.Path.{_≡_, refl, ap, sym, _∙_}
+use mathlib.Core.Path.{_≡_, refl, ap, _∙_}
 use mathlib.Core.Bool.{Bool, true, false, cond, not}
 use Prim.Native.Nat.{ℕ, zero, suc, _/_, _%_, _^_, _<_}
 use native.Mathlib.Omega.{arith}
 use lib.Dec.{eqb}
-use lib.Bits.{bitAnd, bitXor, and-shr, and-mod, and-mask, xor-shr, xor-mod}
+use lib.Bits.{bitAnd, bitXor, and-shr, and-mod, xor-shr, xor-mod}
 use Rattle.raster.specs.Pixel.{bit}
-use Rattle.raster.proofs.Below.{bit-ones}
 
 and-digit : (a b : ℕ) → a < 2 → b < 2 → eqb (bitAnd a b) 1 ≡ cond (eqb a 1) (eqb b 1) false
 and-digit zero b ha hb = refl
@@ -33,13 +32,3 @@ unfolding bit
 bit-xor a b k =
     ap (λ (n : ℕ). eqb n 1) (ap (λ (n : ℕ). n % 2) (xor-shr a b k) ∙ xor-mod (a / 2 ^ k) (b / 2 ^ k) 1)
     ∙ xor-digit (a / 2 ^ k % 2) (b / 2 ^ k % 2) (omega arith) (omega arith)
-
--- a byte's bits are those of the number that it is the low byte of
-pub bit-low : (n k : ℕ) → k < 8 → bit (n % 256) k ≡ bit n k
-bit-low n k h =
-    ap (λ (m : ℕ). bit m k) (sym (and-mask n 8))
-    ∙ (bit-and n 255 k ∙ (ap (λ (b : Bool). cond (bit n k) b false) (bit-ones k h) ∙ kept (bit n k)))
-  where
-    kept : (b : Bool) → cond b true false ≡ b
-    kept true = refl
-    kept false = refl

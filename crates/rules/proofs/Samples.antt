@@ -65,7 +65,7 @@ fill = reg 0x0030 0x21 ∷ reg 0x0020 0x01010101 ∷ reg 0x0024 0x02020202 ∷ r
 
 abbrev pub S6 : Type 0
 S6 =
-    (shows fill (frame 0 0x00020005) ≡ zeros 2 ++ (replicate 4 1 ++ (replicate 2 2 ++ zeros 56))) × (counts fill (frame 0 0x00020005) ≡ 6)
+    (shows fill (frame 0 0x00020005) ≡ zeros 2 ++ (replicate 2 1 ++ (replicate 4 2 ++ zeros 56))) × (counts fill (frame 0 0x00020005) ≡ 6)
 
 abbrev blocks : List Write
 blocks = reg 0x0030 0x2D ∷ reg 0x0140 0x03020100 ∷ reg 0x0144 0x07060504 ∷ reg 0x0080 0xFFFFFFFF ∷ []

@@ -115,16 +115,19 @@ effectiveBy plane held p = number 8 (λ k. cond (bit held k) false (bit (byte pl
 abbrev pub effective : Card → ℕ → ℕ
 effective c p = effectiveBy (c .registers .plane) (c .held) p
 
--- fills: data bits 10:0 are the pixel count less one, bits 17:16 are added to the address
+-- fills: data bits 10:0 are the pixel count less one, bits 17:16, low, are added to the address
+abbrev pub fillLow : Write → ℕ
+fillLow w = w .«data» / 2 ^ 16 % 4
+
 abbrev pub fillFirst : Write → ℕ
-fillFirst w = w .address + w .«data» / 2 ^ 16 % 4
+fillFirst w = w .address + fillLow w
 
 abbrev pub fillWidth : Write → ℕ
 fillWidth w = w .«data» % 2 ^ 11 + 1
 
--- pixel j of a fill uses fill-mask bit j mod 32
-abbrev pub fillBit : Card → ℕ → Bool
-fillBit c j = bit (c .registers .fill) (j % 32)
+-- pixel j of a fill uses fill-mask bit (j + low) mod 32 (change requests, Ask 1; manual 4.4.8.2)
+abbrev pub fillBit : Card → Write → ℕ → Bool
+fillBit c w j = bit (c .registers .fill) ((j + fillLow w) % 32)
 
 -- the span of a frame write
 unfoldable pub frameSpan : Mode → Card → Write → Span
@@ -135,10 +138,10 @@ frameSpan OpaqueStipple c w =
 frameSpan TransparentStipple c w = span (w .address) 32 (λ i. bit (w .«data») i) (λ i. foreground c (w .address + i))
 frameSpan OpaqueFill c w =
     span (fillFirst w) (fillWidth w) (λ j. true)
-    (λ j. cond (fillBit c j) (foreground c (fillFirst w + j)) (background c (fillFirst w + j)))
-frameSpan TransparentFill c w = span (fillFirst w) (fillWidth w) (λ j. fillBit c j) (λ j. foreground c (fillFirst w + j))
+    (λ j. cond (fillBit c w j) (foreground c (fillFirst w + j)) (background c (fillFirst w + j)))
+frameSpan TransparentFill c w = span (fillFirst w) (fillWidth w) (λ j. fillBit c w j) (λ j. foreground c (fillFirst w + j))
 frameSpan BlockStipple c w = span (w .address) 32 (λ i. bit (w .«data») i) (λ i. colour c (w .address + i))
-frameSpan BlockFill c w = span (fillFirst w) (fillWidth w) (λ j. fillBit c j) (λ j. colour c (fillFirst w + j))
+frameSpan BlockFill c w = span (fillFirst w) (fillWidth w) (λ j. fillBit c w j) (λ j. colour c (fillFirst w + j))
 frameSpan Copy c w = span (w .address) 32 (λ i. isSet (c .copier .writing) && bit (w .«data») i) (λ i. getD (c .copier .buffer) i 0)
 frameSpan Unlisted c w = nothing
 

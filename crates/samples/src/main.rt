@@ -137,7 +137,7 @@ fn s6() -> bool {
     let card = register(card, BACKGROUND, 0x02020202);
     let card = register(card, FILL_MASK, 0xF);
     let first = four([0u8; 64], 0, 0, 0, 1, 1);
-    let right = four(first, 4, 1, 1, 2, 2);
+    let right = four(first, 4, 2, 2, 2, 2);
     drawn(card, frame(0, 0x00020005), right, 6)
 }
 

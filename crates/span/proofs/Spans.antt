@@ -10,7 +10,7 @@ use lib.Seq.{take-all}
 use borrow.Rule.Slice.PartMut.{putMid}
 use Rattle.raster.specs.Pixel.{bit}
 use Rattle.span.specs.Fragments.{Fragment, stays, paint, painted, drawn, before, from, counted}
-use Rattle.span.specs.Spans.{Span, pixel, spanned, enabledIn, piece}
+use Rattle.span.specs.Spans.{Span, In, pixel, spanned, enabledIn, piece}
 use Rattle.span.specs.Strokes.{stroke, enabled, Drew, Draws}
 use Rattle.span.specs.declared.Strokes.{Strokes}
 use Rattle.span.specs.declared.Tally.{Tally}
@@ -65,50 +65,59 @@ spanned-same mask s t ef ew eo et p = go (decLt p (t .first)) (decLt p (t .first
         ∙ (at (p - t .first) (omega arith) ∙ sym (spanned-in mask t p (p - t .first) (omega arith) (omega arith)))
     go (no h) (no k) = spanned-past mask s p (omega arith) ∙ sym (spanned-past mask t p (omega arith))
 
+module _ (s t u : Span) (ef : s .first ≡ u .first) (et : t .first ≡ s .first + s .width) (ew : s .width + t .width ≡ u .width) where
+  -- two spans side by side, each of which does what a third across both does there, draw the third
+  pub beside-shows : (op : ℕ) (mask : ℕ → ℕ) → ((p : ℕ) → In p s → spanned mask s p ≡ spanned mask u p)
+      → ((p : ℕ) → In p t → spanned mask t p ≡ spanned mask u p)
+      → (v : List ℕ) → drawn op (spanned mask t) (drawn op (spanned mask s) v) ≡ drawn op (spanned mask u) v
+  beside-shows op mask ins int v =
+      drawn-is op (spanned mask u) v _ (drawn-length op (spanned mask t) _ ∙ drawn-length op (spanned mask s) v)
+      (λ i h.
+      drawn-at op (spanned mask t) _ i (rw (drawn-length op (spanned mask s) v) h)
+      ∙ (ap (λ (x : ℕ). painted op (spanned mask t i) x) (drawn-at op (spanned mask s) v i h)
+      ∙ each i (getD v i 0) (decLt i (s .first)) (decLt i (t .first)) (decLt i (u .first + u .width))))
+    where
+      join : (i x : ℕ) {f g h : Fragment} → spanned mask t i ≡ g → spanned mask s i ≡ f → spanned mask u i ≡ h
+          → painted op g (painted op f x) ≡ painted op h x → painted op (spanned mask t i) (painted op (spanned mask s i) x) ≡ painted op (spanned mask u i) x
+      join i x eg es eh p = rw (eg, es, eh) p
+
+      each : (i x : ℕ) → Dec (i < s .first) → Dec (i < t .first) → Dec (i < u .first + u .width)
+          → painted op (spanned mask t i) (painted op (spanned mask s i) x) ≡ painted op (spanned mask u i) x
+      each i x (yes h) l m = join i x (spanned-before mask t i (omega arith)) (spanned-before mask s i h) (spanned-before mask u i (omega arith)) refl
+      each i x (no h) (yes l) m = join i x (spanned-before mask t i l) (ins i (omega arith, omega arith)) refl refl
+      each i x (no h) (no l) (yes m) = join i x (int i (omega arith, omega arith)) (spanned-past mask s i (omega arith)) refl refl
+      each i x (no h) (no l) (no m) =
+          join i x (spanned-past mask t i (omega arith)) (spanned-past mask s i (omega arith)) (spanned-past mask u i (omega arith)) refl
+
+  -- and so are their counts, where they enable what the third does
+  pub beside-counts : ((j : ℕ) → j < s .width → s .on j ≡ u .on j) → ((j : ℕ) → j < t .width → t .on j ≡ u .on (s .width + j))
+      → enabledIn s + enabledIn t ≡ enabledIn u
+  beside-counts es et =
+      ap₂ (λ (a b : ℕ). a + b) (counted-same (s .width) es) (counted-same (t .width) et)
+      ∙ (sym (counted-append (s .width) (t .width) (u .on)) ∙ ap (λ (a : ℕ). counted a (u .on)) ew)
+
 -- a piece of a span does what the span does there
-piece-in : (mask : ℕ → ℕ) (s : Span) (k n i : ℕ) → k + n ≤ s .width → s .first + k ≤ i → i < s .first + k + n → spanned mask (piece k n s) i ≡ spanned mask s i
-piece-in mask s k n i fits h l =
-    spanned-in mask (piece k n s) i (i - (s .first + k)) (omega arith) (omega arith)
-    ∙ (same (omega arith) (omega arith) ∙ sym (spanned-in mask s i (i - s .first) (omega arith) (omega arith)))
+piece-in : (mask : ℕ → ℕ) (s : Span) (k n i : ℕ) → k + n ≤ s .width → In i (piece k n s) → spanned mask (piece k n s) i ≡ spanned mask s i
+piece-in mask s k n i fits h =
+    spanned-in mask (piece k n s) i (i - (s .first + k)) (omega (arith, h .0)) (omega (arith, h .0, h .1))
+    ∙ (same (omega (arith, h .0)) (omega (arith, h .0)) ∙ sym (spanned-in mask s i (i - s .first) (omega (arith, h .0)) (omega (arith, h .0, h .1))))
   where
     same : s .first + k + (i - (s .first + k)) ≡ s .first + (i - s .first) → k + (i - (s .first + k)) ≡ i - s .first
         → pixel mask (piece k n s) (i - (s .first + k)) ≡ pixel mask s (i - s .first)
     same p q = ap₂ (λ (a j : ℕ). cond (s .on j) (paint (mask a) (s .takes j)) stays) p q
 
-module _ (op : ℕ) (mask : ℕ → ℕ) (s : Span) (k n : ℕ) (e : k + n ≡ s .width) where
+module _ (s : Span) (k n : ℕ) (e : k + n ≡ s .width) where
   -- its first k pixels and then the rest are the whole
-  pub cut-shows : (v : List ℕ) → drawn op (spanned mask (piece k n s)) (drawn op (spanned mask (piece 0 k s)) v) ≡ drawn op (spanned mask s) v
-  cut-shows v =
-      drawn-is op (spanned mask s) v _
-      (drawn-length op (spanned mask (piece k n s)) _ ∙ drawn-length op (spanned mask (piece 0 k s)) v)
-      (λ i h.
-      drawn-at op (spanned mask (piece k n s)) _ i (rw (drawn-length op (spanned mask (piece 0 k s)) v) h)
-      ∙ (ap (λ (x : ℕ). painted op (spanned mask (piece k n s) i) x) (drawn-at op (spanned mask (piece 0 k s)) v i h)
-      ∙ each i (getD v i 0) (decLt i (s .first)) (decLt i (s .first + k)) (decLt i (s .first + s .width))))
-    where
-      join : (i x : ℕ) {f g h : Fragment} → spanned mask (piece k n s) i ≡ g → spanned mask (piece 0 k s) i ≡ f → spanned mask s i ≡ h
-          → painted op g (painted op f x) ≡ painted op h x
-          → painted op (spanned mask (piece k n s) i) (painted op (spanned mask (piece 0 k s) i) x) ≡ painted op (spanned mask s i) x
-      join i x eg ef eh p = rw (eg, ef, eh) p
+  pub cut-shows : (op : ℕ) (mask : ℕ → ℕ) (v : List ℕ)
+      → drawn op (spanned mask (piece k n s)) (drawn op (spanned mask (piece 0 k s)) v) ≡ drawn op (spanned mask s) v
+  cut-shows op mask v =
+      beside-shows (piece 0 k s) (piece k n s) s (omega arith) (omega arith) e op mask (λ i h. piece-in mask s 0 k i (omega arith) h)
+      (λ i h. piece-in mask s k n i (omega arith) h) v
 
-      each : (i x : ℕ) → Dec (i < s .first) → Dec (i < s .first + k) → Dec (i < s .first + s .width)
-          → painted op (spanned mask (piece k n s) i) (painted op (spanned mask (piece 0 k s) i) x) ≡ painted op (spanned mask s i) x
-      each i x (yes h) l m =
-          join i x (spanned-before mask (piece k n s) i (omega arith)) (spanned-before mask (piece 0 k s) i (omega arith)) (spanned-before mask s i h) refl
-      each i x (no h) (yes l) m =
-          join i x (spanned-before mask (piece k n s) i l) (piece-in mask s 0 k i (omega arith) (omega arith) (omega arith)) refl refl
-      each i x (no h) (no l) (yes m) =
-          join i x (piece-in mask s k n i (omega arith) (omega arith) (omega arith)) (spanned-past mask (piece 0 k s) i (omega arith)) refl refl
-      each i x (no h) (no l) (no m) =
-          join i x (spanned-past mask (piece k n s) i (omega arith)) (spanned-past mask (piece 0 k s) i (omega arith))
-          (spanned-past mask s i (omega arith)) refl
-
--- and so are their counts
-pub cut-counts : (s : Span) (k n : ℕ) → k + n ≡ s .width → enabledIn (piece 0 k s) + enabledIn (piece k n s) ≡ enabledIn s
-cut-counts s k n e =
-    let z : (j : ℕ) → 0 + j ≡ j = λ j. omega arith in
-    ap (λ (a : ℕ). a + enabledIn (piece k n s)) (counted-same k (λ j h. ap (s .on) (z j)))
-    ∙ (sym (counted-append k n (s .on)) ∙ ap (λ (a : ℕ). counted a (s .on)) e)
+  -- and so are their counts
+  pub cut-counts : enabledIn (piece 0 k s) + enabledIn (piece k n s) ≡ enabledIn s
+  cut-counts =
+      beside-counts (piece 0 k s) (piece k n s) s (omega arith) (omega arith) e (λ j h. let z : 0 + j ≡ j = omega arith in ap (s .on) z) (λ j h. refl)
 
 by-four : (phase first j : ℕ) → phase ≡ first % 4 → (phase + j) % 4 ≡ (first + j) % 4
 by-four phase first j h = omega arith

@@ -1,6 +1,6 @@
 -- A span of pixels: what a write draws, chosen without looking at the picture. Pixel j counts from the first.
 use mathlib.Core.Bool.{Bool, cond}
-use Prim.Native.Nat.{ℕ, _+_}
+use Prim.Native.Nat.{ℕ, _+_, _<_, _≤_}
 use Rattle.span.specs.Fragments.{Fragment, stays, paint, before, from, counted}
 
 -- its first pixel, its width, which of its pixels are enabled, and what each takes
@@ -12,6 +12,10 @@ pub record Span : Type 0 where
 
 abbrev pub span : ℕ → ℕ → (ℕ → Bool) → (ℕ → ℕ) → Span
 span a n on takes = record { first = a; width = n; on = on; takes = takes }
+
+-- address p is that of one of its pixels
+abbrev pub In : ℕ → Span → Type 0
+In p s = (s .first ≤ p) × (p < s .first + s .width)
 
 -- pixel j, under the mask of its address
 abbrev pub pixel : (ℕ → ℕ) → Span → ℕ → Fragment

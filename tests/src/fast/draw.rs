@@ -88,12 +88,23 @@ pub fn block_stipple(card: &Card, vram: &mut [u8], write: Write) -> Answer {
     Ok(write.data.count_ones())
 }
 
-/// The span of a fill, and its first pixel modulo 8.
-fn fill_span(vram: &mut [u8], write: Write) -> Result<(&mut [u8], u32), u32> {
+/// What a fill covers.
+struct Fill<'a> {
+    pixels: &'a mut [u8],
+    /// The first pixel modulo 8.
+    first: u32,
+    /// The fill mask, the bit of the first pixel lowest.
+    mask: u32,
+}
+
+fn fill_of<'a>(card: &Card, vram: &'a mut [u8], write: Write) -> Result<Fill<'a>, u32> {
     let low = write.data >> 16 & 3;
     let pixels = (write.data & 2047) as usize + 1;
-    let part = span(vram, write.address, 4, low as usize, pixels)?;
-    Ok((part, write.address % 8 + low))
+    Ok(Fill {
+        pixels: span(vram, write.address, 4, low as usize, pixels)?,
+        first: write.address % 8 + low,
+        mask: card.data.rotate_right(low),
+    })
 }
 
 /// A span on which the changes of thirty-two pixels repeat.
@@ -123,25 +134,37 @@ fn repeated_ones(mask: u32, pixels: usize) -> u32 {
 }
 
 pub fn opaque_fill(card: &Card, vram: &mut [u8], write: Write) -> Answer {
-    let (pixels, first) = fill_span(vram, write)?;
+    let Fill {
+        pixels,
+        first,
+        mask,
+    } = fill_of(card, vram, write)?;
     let foreground = drawn(card, twice(card.foreground), first);
     let background = drawn(card, twice(card.background), first);
-    fill(pixels, |k| foreground.or(background, spread(card.data, k)));
+    fill(pixels, |k| foreground.or(background, spread(mask, k)));
     Ok(pixels.len() as u32)
 }
 
 pub fn transparent_fill(card: &Card, vram: &mut [u8], write: Write) -> Answer {
-    let (pixels, first) = fill_span(vram, write)?;
+    let Fill {
+        pixels,
+        first,
+        mask,
+    } = fill_of(card, vram, write)?;
     let foreground = drawn(card, twice(card.foreground), first);
-    fill(pixels, |k| foreground.only(spread(card.data, k)));
-    Ok(repeated_ones(card.data, pixels.len()))
+    fill(pixels, |k| foreground.only(spread(mask, k)));
+    Ok(repeated_ones(mask, pixels.len()))
 }
 
 pub fn block_fill(card: &Card, vram: &mut [u8], write: Write) -> Answer {
-    let (pixels, first) = fill_span(vram, write)?;
+    let Fill {
+        pixels,
+        first,
+        mask,
+    } = fill_of(card, vram, write)?;
     let colours = drawn_block(card, first);
-    fill(pixels, |k| colours.only(spread(card.data, k)));
-    Ok(repeated_ones(card.data, pixels.len()))
+    fill(pixels, |k| colours.only(spread(mask, k)));
+    Ok(repeated_ones(mask, pixels.len()))
 }
 
 /// The accepted writes of copy mode alternate.

@@ -69,7 +69,7 @@ returns c =
     let e : 32 + 32 ≡ P .width = omega (arith, q .2) in
     let h = halves c in
     record {
-      shows = h .0 ∙ cut-shows (a .p .op) m P 32 32 e (now (a .vram));
+      shows = h .0 ∙ cut-shows P 32 32 e (a .p .op) m (now (a .vram));
       counts = ap₂ (λ (x y : ℕ). x + y) (h .2) (h .3) ∙ cut-counts P 32 32 e;
     }
 

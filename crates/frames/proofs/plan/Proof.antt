@@ -23,6 +23,9 @@ add-first c = search needs
 add-width : tie.Need-add-width
 add-width c = search needs
 
+rotated-requires : tie.Need-rotated-requires
+rotated-requires c κs = search needs
+
 enum-told : tie.Need-enum-told
 enum-told c = search needs
 
@@ -115,39 +118,39 @@ drawing-requires-8 c κs = search needs
 
 returns : tie.Need-returns
 unfolding frameSpan
-returns c = c .drawing .ensures ∙ rw (← (c .before .before .before .before .before .before .before .before .mode-of .ensures), c .before .before .before .enum-told .given .1, c .before .tile .ensures)
+returns c = c .drawing .ensures ∙ rw (← (c .before .before .before .before .before .before .before .before .before .mode-of .ensures), c .before .before .before .enum-told .given .1, c .before .tile .ensures)
 
 returns-2 : tie.Need-returns-2
 unfolding frameSpan
-returns-2 c = c .drawing2 .ensures ∙ rw (← (c .before .before .before .before .before .before .before .mode-of .ensures), c .before .before .enum-told2 .given .1, c .before .stipple .ensures)
+returns-2 c = c .drawing2 .ensures ∙ rw (← (c .before .before .before .before .before .before .before .before .mode-of .ensures), c .before .before .enum-told2 .given .1, c .before .stipple .ensures)
 
 returns-3 : tie.Need-returns-3
 unfolding frameSpan
-returns-3 c = c .drawing3 .ensures ∙ rw (← (c .before .before .before .before .before .before .before .mode-of .ensures), c .before .before .enum-told3 .given .1, c .before .tile2 .ensures)
+returns-3 c = c .drawing3 .ensures ∙ rw (← (c .before .before .before .before .before .before .before .before .mode-of .ensures), c .before .before .enum-told3 .given .1, c .before .tile2 .ensures)
 
 returns-4 : tie.Need-returns-4
 unfolding frameSpan
-returns-4 c = c .drawing4 .ensures ∙ rw (← (c .before .before .before .before .before .before .before .mode-of .ensures), c .before .before .enum-told4 .given .1, c .before .stipple2 .ensures)
+returns-4 c = c .drawing4 .ensures ∙ rw (← (c .before .before .before .before .before .before .before .before .mode-of .ensures), c .before .before .enum-told4 .given .1, c .before .stipple2 .ensures, c .before .before .before .before .before .before .rotated .ensures)
 
 returns-5 : tie.Need-returns-5
 unfolding frameSpan
-returns-5 c = c .drawing5 .ensures ∙ rw (← (c .before .before .before .before .before .before .before .mode-of .ensures), c .before .before .enum-told5 .given .1, c .before .tile3 .ensures)
+returns-5 c = c .drawing5 .ensures ∙ rw (← (c .before .before .before .before .before .before .before .before .mode-of .ensures), c .before .before .enum-told5 .given .1, c .before .tile3 .ensures, c .before .before .before .before .before .before .rotated .ensures)
 
 returns-6 : tie.Need-returns-6
 unfolding frameSpan
-returns-6 c = c .drawing6 .ensures ∙ rw (← (c .before .before .before .before .before .before .before .before .before .mode-of .ensures), c .before .before .before .before .enum-told6 .given .1, c .before .tile4 .ensures)
+returns-6 c = c .drawing6 .ensures ∙ rw (← (c .before .before .before .before .before .before .before .before .before .before .mode-of .ensures), c .before .before .before .before .enum-told6 .given .1, c .before .tile4 .ensures)
 
 returns-7 : tie.Need-returns-7
 unfolding frameSpan
-returns-7 c = c .drawing7 .ensures ∙ rw (← (c .before .before .before .before .before .before .before .before .before .mode-of .ensures), c .before .before .before .before .enum-told7 .given .1, c .before .tile5 .ensures)
+returns-7 c = c .drawing7 .ensures ∙ rw (← (c .before .before .before .before .before .before .before .before .before .before .mode-of .ensures), c .before .before .before .before .enum-told7 .given .1, c .before .tile5 .ensures, c .before .before .before .before .before .before .before .before .rotated .ensures)
 
 returns-8 : tie.Need-returns-8
 unfolding frameSpan
-returns-8 c = c .of-copy .ensures ∙ rw (← (c .before .before .before .before .before .before .mode-of .ensures), c .before .enum-told8 .given .1)
+returns-8 c = c .of-copy .ensures ∙ rw (← (c .before .before .before .before .before .before .before .mode-of .ensures), c .before .enum-told8 .given .1)
 
 returns-9 : tie.Need-returns-9
 unfolding frameSpan
-returns-9 c = c .drawing8 .ensures ∙ rw (← (c .before .before .before .before .before .before .mode-of .ensures), c .before .enum-told9 .given .1)
+returns-9 c = c .drawing8 .ensures ∙ rw (← (c .before .before .before .before .before .before .before .mode-of .ensures), c .before .enum-told9 .given .1)
 
 pub plan-spec : {M : Type 1} → statement M
 plan-spec =
@@ -159,6 +162,7 @@ plan-spec =
     cast-first
     add-first
     add-width
+    rotated-requires
     enum-told
     cast-enable
     tile-requires

@@ -5,8 +5,7 @@ use Prim.Native.Nat.{ℕ, _%_}
 use native.Mathlib.Nat.{div-one}
 use native.Mathlib.Omega.{arith}
 use Rattle.raster.specs.Pixel.{bit, number}
-use Rattle.raster.proofs.Bits.{number-same}
-use Rattle.raster.proofs.Bitwise.{bit-low}
+use Rattle.raster.proofs.Bits.{bit-low, number-same}
 use Rattle.span.specs.Fragments.{byte}
 use Rattle.rules.specs.Modes.{effectiveBy}
 use Rattle.drawing.proofs.Arrays.{quarters}
@@ -16,7 +15,7 @@ use Rattle.drawing.proofs.pattern.masks.Tie as tie
 
 -- only bits 7:0 of the held planes count
 low : (h b : ℕ) → number 8 (λ k. cond (bit (h % 256) k) false (bit b k)) ≡ number 8 (λ k. cond (bit h k) false (bit b k))
-low h b = number-same 8 (λ k l. ap (λ (x : Bool). cond x false (bit b k)) (bit-low h k l))
+low h b = number-same 8 (λ k l. ap (λ (x : Bool). cond x false (bit b k)) (bit-low 8 h k l))
 
 cast-h : tie.Need-cast-h
 cast-h c = search needs
