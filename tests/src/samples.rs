@@ -1,4 +1,4 @@
-//! "Samples": S1 to S12 and the two sizes to be run as tests, with the values that the scope paper gives.
+//! "Samples": S1 to S12 and the two sizes to be run as tests, with the values that the scope paper gives, and Ask 1 for S6.
 
 use crate::model::{self, pixel, trace, Card, Write};
 

@@ -6,7 +6,6 @@ use mathlib.Core.List.{List, [], _∷_}
 use Prim.Native.Nat.{ℕ, _+_, _-_, _%_, _<_}
 use native.Mathlib.Omega.{arith}
 use lib.ListN.{length}
-use borrow.Author.Tests.{ne-eqb, eq-eqb}
 use Rattle.span.specs.Fragments.{drawn}
 use Rattle.span.specs.Layers.{drawnAll}
 use Rattle.span.specs.Spans.{Span, In, spanned, enabledIn}
@@ -17,15 +16,14 @@ use Rattle.rules.specs.Modes.{modeOf, isBlock, isCopy, effective, fillLow, fill
 use Rattle.rules.specs.Refusal.{badLanes, badMode, badRaster, offBoundary, outside, unloaded, refusal}
 use Rattle.rules.specs.Writes.{count, operation, picture, usedUp, afterFrame, next}
 use Rattle.rules.specs.Sequences.{cardAfter, pictureAfter}
-use Rattle.rules.specs.declared.Mode.{Mode}
 use Rattle.rules.proofs.Outcome.{picture-accepted, count-accepted, next-frame}
 use Rattle.demands.proofs.Demand1.{same-length}
-use Rattle.demands.proofs.Seam.{Fill, opaque-fill, transparent-fill, block-fill, modeIn, fillSpan, given, fill-reach, same-given, seam}
+use Rattle.demands.proofs.Seam.{Fill, opaque-fill, transparent-fill, block-fill, fillMode, fillSpan, fill-reach, seam, seam-fragment}
 
 -- an accepted fill on n bytes
 pub record Fills (f : Fill) (c : Card) (w : Write) (n : ℕ) : Type 0 where
   pub frame : w .space ≡ 0
-  pub mode : modeOf (c .registers .mode) ≡ modeIn f
+  pub mode : modeOf (c .registers .mode) ≡ fillMode f
   pub accepted : refusal c w n ≡ 0
 
 -- w′ starts where w ends, at an address that agrees with that of w mod 32, and u starts as w does and is as wide as both
@@ -42,33 +40,26 @@ pub record Meets (c : Card) (w w′ u : Write) (v : List ℕ) : Type 0 where
   pub leaves : cardAfter (w ∷ w′ ∷ []) c v ≡ next c u v
   pub counts : count c w (length v) + count (next c w v) w′ (length v) ≡ count c u (length v)
 
+no-copy : (f : Fill) → isCopy (fillMode f) ≡ false
+no-copy opaque-fill = refl
+no-copy transparent-fill = refl
+no-copy block-fill = refl
+
+-- the card that a fill leaves: its mask is used up, which no fill looks at
+abbrev used : Card → Card
+used c = record { registers = c .registers; mask = usedUp (c .mask); copier = c .copier; held = c .held }
+
+used-span : (f : Fill) (c : Card) (w : Write) → fillSpan f (used c) w ≡ fillSpan f c w
+unfolding frameSpan
+used-span opaque-fill c w = refl
+used-span transparent-fill c w = refl
+used-span block-fill c w = refl
+
 module _ (f : Fill) where
-  -- the mode of a fill is no copy mode
-  no-copy : isCopy (modeIn f) ≡ false
-  no-copy = go f
-    where
-      go : (f : Fill) → isCopy (modeIn f) ≡ false
-      go opaque-fill = refl
-      go transparent-fill = refl
-      go block-fill = refl
-
   abbrev op : Card → ℕ
-  op c = cond (isBlock (modeIn f)) 3 (c .registers .raster)
+  op c = cond (isBlock (fillMode f)) 3 (c .registers .raster)
 
-  -- the card with its mask used up, which is all that a fill leaves otherwise
-  abbrev used : Card → Card
-  used c = record { registers = c .registers; mask = usedUp (c .mask); copier = c .copier; held = c .held }
-
-  used-span : (c : Card) (w : Write) → fillSpan f (used c) w ≡ fillSpan f c w
-  unfolding frameSpan
-  used-span c w = go f
-    where
-      go : (f : Fill) → fillSpan f (used c) w ≡ fillSpan f c w
-      go opaque-fill = refl
-      go transparent-fill = refl
-      go block-fill = refl
-
-  one-span : (c : Card) (w : Write) → w .space ≡ 0 → modeOf (c .registers .mode) ≡ modeIn f → spansOf c w ≡ fillSpan f c w ∷ []
+  one-span : (c : Card) (w : Write) → w .space ≡ 0 → modeOf (c .registers .mode) ≡ fillMode f → spansOf c w ≡ fillSpan f c w ∷ []
   unfolding spansOf
   one-span c w frame mode = rw (frame, mode)
 
@@ -85,10 +76,10 @@ module _ (f : Fill) where
 
     fill-leaves : next c w v ≡ used c
     unfolding afterFrame
-    fill-leaves = next-frame c w v (h .accepted) (λ e. omega (arith, h .frame)) ∙ rw (h .mode, no-copy)
+    fill-leaves = next-frame c w v (h .accepted) (λ e. omega (arith, h .frame)) ∙ rw (h .mode, no-copy f)
 
     used-spans : spansOf (used c) w ≡ spansOf c w
-    used-spans = one-span (used c) w (h .frame) (h .mode) ∙ (ap (λ (s : Span). s ∷ []) (used-span c w) ∙ sym spans)
+    used-spans = one-span (used c) w (h .frame) (h .mode) ∙ (ap (λ (s : Span). s ∷ []) (used-span f c w) ∙ sym spans)
 
     -- the card that another fill left accepts it too
     fills-again : Fills f (used c) w (length v)
@@ -134,7 +125,7 @@ module _ (f : Fill) where
         let kx : t .first + i - fillSpan f c x .first ≡ j = omega (arith, q) in
         let kt : t .first + i - t .first ≡ i = omega arith in
         sym (ap (fillSpan f c x .on) kx)
-        ∙ (ap (λ (g : ℕ × ℕ × Bool). g .2) (same-given f c x u e (t .first + i) (omega (arith, q), omega (arith, q)) inside) ∙ ap (t .on) kt)
+        ∙ (ap (λ (g : ℕ × ℕ × Bool). g .2) (seam f c x u e (t .first + i) (omega (arith, q), omega (arith, q)) inside) ∙ ap (t .on) kt)
 
     again : Fills f (used c) w′ (length (picture c w v))
     again = rw (same-length c w v) (fills-again c w′ v h′)
@@ -144,12 +135,12 @@ module _ (f : Fill) where
     meets =
         record {
           shows = rw (fill-leaves c w v h) (fill-shows (used c) w′ (picture c w v) again
-              ∙ (rw (used-span c w′, fill-shows c w v h) (beside-shows s s′ t (reach .0) (reach .1) (reach .2) (op c) (effective c)
-              (λ p i. seam f c w u agrees-first p i (in-first p i)) (λ p i. seam f c w′ u agrees-second p i (in-second p i)) v)
+              ∙ (rw (used-span f c w′, fill-shows c w v h) (beside-shows s s′ t (reach .0) (reach .1) (reach .2) (op c) (effective c)
+              (λ p i. seam-fragment f c w u agrees-first p i (in-first p i)) (λ p i. seam-fragment f c w′ u agrees-second p i (in-second p i)) v)
               ∙ sym (fill-shows c u v k)));
           leaves = rw (fill-leaves c w v h) (fill-leaves (used c) w′ (picture c w v) again ∙ sym (fill-leaves c u v k));
           counts = rw (fill-leaves c w v h) (ap₂ (λ (m n : ℕ). m + n) (fill-counts c w v h)
-              (fill-counts (used c) w′ v (fills-again c w′ v h′) ∙ ap (λ (x : Span). enabledIn x) (used-span c w′))
+              (fill-counts (used c) w′ v (fills-again c w′ v h′) ∙ ap (λ (x : Span). enabledIn x) (used-span f c w′))
               ∙ (beside-counts s s′ t (reach .0) (reach .1) (reach .2)
               (λ j l. same-on w agrees-first j j l (omega (arith, reach .0)) (omega arith, omega (arith, reach .2)))
               (λ j l. same-on w′ agrees-second (s .width + j) j l (omega (arith, reach .0, reach .1)) (omega arith, omega (arith, reach .2)))

@@ -9,3 +9,4 @@ pub mod Caliper
 pub mod CaliperSample
 pub mod Seam
 pub mod Hatch
+pub mod HatchSample

@@ -1,6 +1,7 @@
 // The demonstration: a bedside screen of 256 by 256 pixels, drawn through the engine's writes alone.
 // The alarm border stands in plane 7. A card that holds every other plane draws it, and the card that draws all the rest holds
-// plane 7, so its grey fill leaves the border. A caliper is drawn by exclusive-or and taken off the same way.
+// plane 7, so its grey fill leaves the border. A hatched band is drawn in two fills a row, which meet. A caliper is drawn by exclusive-or
+// and taken off the same way.
 // With a name as argument it also writes the picture there, as a PGM.
 use card::Card;
 use card::Write;

@@ -1,7 +1,7 @@
 -- Bits of the words that a span goes by. Assumes nothing.
 use mathlib.Core.Path.{_≡_, refl, ap, sym, _∙_}
 use mathlib.Core.Bool.{Bool, true, false, cond, _&&_}
-use Prim.Native.Nat.{ℕ, _+_, _-_, _*_, _/_, _%_, _^_, _<_}
+use Prim.Native.Nat.{ℕ, _+_, _*_, _/_, _%_, _^_, _<_}
 use native.Mathlib.Decide.{decLt}
 use native.Mathlib.Omega.{arith}
 use lib.Bits.{bitAnd}
@@ -49,7 +49,7 @@ bit-twice x k hx hk = go (decLt k 32)
         ap (λ (i : ℕ). bit (x * 2 ^ 32 + x) i) e
         ∙ (sym (bit-high 32 (x * 2 ^ 32 + x) (k % 32)) ∙ ap (λ (n : ℕ). bit n (k % 32)) (high x 32 hx))
 
--- is rotated by taking 32 bits of it, from bit low on
+-- the word rotated is 32 bits of that, from bit low on
 pub rotated-twice : (x l : ℕ) → x < 2 ^ 32 → (x * 2 ^ 32 + x) / 2 ^ (l % 32) % 2 ^ 32 ≡ rotated x l
 unfolding rotated
 rotated-twice x l hx = same-bits 32 _ _ (omega arith) (number-below 32 (λ k. bit x ((k + l) % 32))) at

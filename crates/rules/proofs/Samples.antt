@@ -1,4 +1,5 @@
--- Samples S1 to S11 of the scope paper, each as it stands there, and two more for its slips, computed from the definitions. Assumes nothing.
+-- Samples S1 to S11 of the scope paper, each as it stands there, S6 as Ask 1 reads it, and three more for slips, computed from the definitions.
+-- Assumes nothing.
 use mathlib.Core.Path.{_≡_, refl}
 use mathlib.Core.List.{List, [], _∷_, _++_}
 use Prim.Native.Nat.{ℕ}
@@ -108,9 +109,23 @@ abbrev pub HeldCopy : Type 0
 HeldCopy =
     pictureAfter (reg 0x0160 0 ∷ reg 0x0164 64 ∷ []) (resetCard 0x80) (zeros 64 ++ replicate 64 0xFF) ≡ zeros 64 ++ replicate 64 0x80
 
-computed : (S1 × S2 × S3 × S4 × S5 × S6 × S7 × S8 × S9 × S10 × S11) × Overlap × HeldCopy
+-- S6's mask and data in the other two fills: only pixels 2 and 3 are drawn
+abbrev transparent : List Write
+transparent = reg 0x0030 0x45 ∷ reg 0x0020 0x01010101 ∷ reg 0x0080 0xF ∷ []
+
+abbrev block : List Write
+block = reg 0x0030 0x2D ∷ reg 0x0140 0x03020100 ∷ reg 0x0144 0x07060504 ∷ reg 0x0080 0xF ∷ []
+
+abbrev pub SlidFills : Type 0
+SlidFills =
+    (shows transparent (frame 0 0x00020005) ≡ zeros 2 ++ (1 ∷ 1 ∷ zeros 60))
+    × (counts transparent (frame 0 0x00020005) ≡ 2)
+    × (shows block (frame 0 0x00020005) ≡ zeros 2 ++ (2 ∷ 3 ∷ zeros 60))
+    × (counts block (frame 0 0x00020005) ≡ 2)
+
+computed : (S1 × S2 × S3 × S4 × S5 × S6 × S7 × S8 × S9 × S10 × S11) × Overlap × HeldCopy × SlidFills
 unfolding cardAfter pictureAfter refusal badLength badSpace badLanes noRegister badMode badRaster offBoundary outside unloaded modeOf frameSpan spansOf spanned effectiveBy count operation layers picture sourced afterFrame afterRegister next resetCard rowAt rowIn table stores byte from before drawn drawnAll counted listed made number result bit
-computed = (((refl, refl), (refl, refl), refl, (refl, refl), refl, (refl, refl), refl, (refl, refl), s9, (refl, refl, refl), refl), refl, refl)
+computed = (((refl, refl), (refl, refl), refl, (refl, refl), refl, (refl, refl), refl, (refl, refl), s9, (refl, refl, refl), refl), refl, refl, (refl, refl, refl, refl))
 
 pub samples : S1 × S2 × S3 × S4 × S5 × S6 × S7 × S8 × S9 × S10 × S11
 samples = computed .0
@@ -120,3 +135,6 @@ overlap = computed .1
 
 pub held-copy : HeldCopy
 held-copy = computed .2
+
+pub slid-fills : SlidFills
+slid-fills = computed .3

@@ -1,4 +1,4 @@
-// Samples S1 to S12 of the scope paper through the code, each compared with what it should be.
+// Samples S1 to S12 of the scope paper, S6 in the reading of Ask 1, through the code, each compared with what it should be.
 ghost use Prim.Native.Nat.{_≤_};
 use card::Card;
 use card::Write;

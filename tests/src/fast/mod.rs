@@ -1,4 +1,4 @@
-//! A plain implementation of the scope paper, written for speed in safe Rust, as the measure beside the engine in `bench`.
+//! A plain implementation of the scope paper and Ask 1, written for speed in safe Rust, as the measure beside the engine in `bench`.
 //! It uses the model's types of a card and a write, and shares none of its rules and tables; `model` checks that both give the
 //! same.
 

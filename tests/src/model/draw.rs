@@ -61,8 +61,7 @@ fn source(card: &Card, write: Write, span: &Span, i: u64) -> Option<u8> {
     // Fills take their picking bit from the fill mask, all other modes from the data.
     let picked = if mode::is_fill(card.mode) {
         // Ask 1: "Pixel j must use mask bit (j + low) mod 32, where low is write data bits 17:16"
-        let low = u64::from(write.data >> 16) % 4;
-        set(card.data, (i + low) % 32)
+        set(card.data, (i + mode::low(write)) % 32)
     } else {
         set(write.data, i)
     };

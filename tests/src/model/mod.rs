@@ -1,4 +1,5 @@
-//! A reference model of the scope paper, written from the paper alone: slow, bit by bit, and sharing nothing with the engine.
+//! A reference model of the scope paper, as Ask 1 of the change requests amends it, written from the papers alone: slow, bit by
+//! bit, and sharing nothing with the engine.
 //! Addresses and lengths are handled as u64, so nothing wraps.
 
 pub mod card;

@@ -42,6 +42,11 @@ pub struct Span {
     pub pixels: u64,
 }
 
+/// Data bits 17:16 of a fill.
+pub fn low(write: Write) -> u64 {
+    u64::from(write.data >> 16) % 4
+}
+
 /// "Frame addresses are multiples of 4, in copy mode of 8."
 pub fn frame_span(mode: u32, write: Write) -> Span {
     let address = u64::from(write.address);
@@ -50,8 +55,7 @@ pub fn frame_span(mode: u32, write: Write) -> Span {
         (address, 4)
     } else if is_fill(mode) {
         // "data bits 10:0 are pixel count less one, bits 17:16 are added to the address"
-        let low = u64::from(write.data >> 16) % 4;
-        (address + low, u64::from(write.data) % 2048 + 1)
+        (address + low(write), u64::from(write.data) % 2048 + 1)
     } else {
         (address, 32)
     };

@@ -130,11 +130,11 @@ returns-3 c = c .drawing3 .ensures ∙ rw (← (c .before .before .before .befor
 
 returns-4 : tie.Need-returns-4
 unfolding frameSpan
-returns-4 c = c .drawing4 .ensures ∙ rw (← (c .before .before .before .before .before .before .before .before .mode-of .ensures), c .before .before .enum-told4 .given .1, c .before .stipple2 .ensures, c .before .before .before .before .before .before .rotated .ensures)
+returns-4 c = c .drawing4 .ensures ∙ rw (← (c .before .before .before .before .before .before .before .before .mode-of .ensures), c .before .before .enum-told4 .given .1) (simp (c .before .stipple2 .ensures, c .before .before .before .before .before .before .rotated .ensures))
 
 returns-5 : tie.Need-returns-5
 unfolding frameSpan
-returns-5 c = c .drawing5 .ensures ∙ rw (← (c .before .before .before .before .before .before .before .before .mode-of .ensures), c .before .before .enum-told5 .given .1, c .before .tile3 .ensures, c .before .before .before .before .before .before .rotated .ensures)
+returns-5 c = c .drawing5 .ensures ∙ rw (← (c .before .before .before .before .before .before .before .before .mode-of .ensures), c .before .before .enum-told5 .given .1) (simp (c .before .tile3 .ensures, c .before .before .before .before .before .before .rotated .ensures))
 
 returns-6 : tie.Need-returns-6
 unfolding frameSpan
@@ -142,7 +142,7 @@ returns-6 c = c .drawing6 .ensures ∙ rw (← (c .before .before .before .befor
 
 returns-7 : tie.Need-returns-7
 unfolding frameSpan
-returns-7 c = c .drawing7 .ensures ∙ rw (← (c .before .before .before .before .before .before .before .before .before .before .mode-of .ensures), c .before .before .before .before .enum-told7 .given .1, c .before .tile5 .ensures, c .before .before .before .before .before .before .before .before .rotated .ensures)
+returns-7 c = c .drawing7 .ensures ∙ rw (← (c .before .before .before .before .before .before .before .before .before .before .mode-of .ensures), c .before .before .before .before .enum-told7 .given .1) (simp (c .before .tile5 .ensures, c .before .before .before .before .before .before .before .before .rotated .ensures))
 
 returns-8 : tie.Need-returns-8
 unfolding frameSpan
