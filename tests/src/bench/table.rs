@@ -68,10 +68,9 @@ impl Table {
     }
 
     pub fn print_row(&self, row: &Row, times: &Times) {
-        print_line(
-            &row.name,
-            self.columns.iter().map(|(_, of)| cell(of(row, times))),
-        );
+        let mark = times.other_rule.then(|| String::from("*"));
+        let cells = self.columns.iter().map(|(_, of)| cell(of(row, times)));
+        print_line(&row.name, cells.chain(mark));
     }
 }
 

@@ -20,19 +20,23 @@ pub enum Timed {
     Copied,
 }
 
-/// Seconds that a turn took in each round: none for the other library where there is no other, or for memset and memcpy where
-/// no pixels are.
-pub struct Times([[Option<f64>; 5]; ROUNDS]);
+pub struct Times {
+    /// Seconds that a turn took in each round: none for the other library where there is no other, or for memset and memcpy where
+    /// no pixels are.
+    rounds: [[Option<f64>; 5]; ROUNDS],
+    /// The other library draws another picture, or counts other pixels: it has another rule.
+    pub other_rule: bool,
+}
 
 impl Times {
     pub fn median(&self, timed: Timed) -> Option<f64> {
-        median(self.0.map(|round| round[timed as usize]))
+        median(self.rounds.map(|round| round[timed as usize]))
     }
 
     /// The median of every round's ratio.
     pub fn ratio(&self, timed: Timed, over: Timed) -> Option<f64> {
         median(
-            self.0
+            self.rounds
                 .map(|round| Some(round[timed as usize]? / round[over as usize]?)),
         )
     }
@@ -46,12 +50,15 @@ pub fn measure(row: &Row) -> Result<Times, String> {
     let mut card = fast::reset(0);
     let mut plain = Side::new(|vram, write| fast::write(&mut card, vram, write), &picture);
     let pixels = plain.first_pass(row)?;
-    engine.same_work(row, pixels, &plain.vram)?;
-    if let Some(other) = &mut other {
-        other.same_work(row, pixels, &plain.vram)?;
+    if !engine.same_work(row, pixels, &plain.vram)? {
+        return Err(format!("{}: the sides differ", row.name));
     }
+    let other_rule = match &mut other {
+        None => false,
+        Some(other) => !other.same_work(row, pixels, &plain.vram)?,
+    };
     let drawn = row.pixels > 0;
-    Ok(Times(std::array::from_fn(|_| {
+    let rounds = std::array::from_fn(|_| {
         // In the order of `Timed`.
         [
             Some(timed(|| engine.pass(&row.writes))),
@@ -62,7 +69,8 @@ pub fn measure(row: &Row) -> Result<Times, String> {
             drawn.then(|| timed(|| set(row, &mut memory))),
             drawn.then(|| timed(|| copy(row, &mut memory, &picture))),
         ]
-    })))
+    });
+    Ok(Times { rounds, other_rule })
 }
 
 /// Seconds for each turn, over as many passes as fill a round.
