@@ -83,16 +83,16 @@ const BEAT: [(u32, u32); 64] = [
     (170, 2),
 ];
 
-/// A diagonal hatch: the fill mask of each of eight rows.
+/// A hatch: the fill mask of each of eight rows. It comes again every 32 pixels, no sooner.
 const HATCH: [u32; 8] = [
-    0x0303_0303,
-    0x0606_0606,
-    0x0C0C_0C0C,
-    0x1818_1818,
-    0x3030_3030,
-    0x6060_6060,
-    0xC0C0_C0C0,
-    0x8181_8181,
+    0x0000_000F,
+    0x0000_00F0,
+    0x0000_0F00,
+    0x0000_F000,
+    0x000F_0000,
+    0x00F0_0000,
+    0x0F00_0000,
+    0xF000_0000,
 ];
 
 /// A trace as it is written; the first refusal is kept.

@@ -23,9 +23,9 @@ const SITUATIONS: [&str; 14] = [
     "copy mark over 1, destination drawn",
     "64-byte mark over 1, destination drawn",
     "any mark over 1, refused",
-    "opaque fill, the slid mask another",
-    "transparent fill, the slid mask another",
-    "block fill, the slid mask another",
+    "opaque fill accepted, the slid mask another word",
+    "transparent fill accepted, the slid mask another word",
+    "block fill accepted, the slid mask another word",
 ];
 
 pub struct Coverage {

@@ -1,5 +1,5 @@
--- Two hatches side by side are one hatch: two fills whose addresses agree mod 32, made one after the other, leave the picture and the card of one
--- fill across both, and count as many pixels. It is the seam of two fills, seen as a picture. Assumes nothing.
+-- Two hatches side by side are one hatch: two accepted fills whose addresses agree mod 32, made one after the other, leave the picture and the card
+-- of one accepted fill across both, and count as many pixels. It is the seam, seen as a picture. Assumes nothing.
 use mathlib.Core.Path.{_≡_, refl, ap, ap₂, sym, _∙_}
 use mathlib.Core.Bool.{Bool, false, cond}
 use mathlib.Core.List.{List, [], _∷_}
@@ -141,7 +141,7 @@ module _ (f : Fill) where
           leaves = rw (fill-leaves c w v h) (fill-leaves (used c) w′ (picture c w v) again ∙ sym (fill-leaves c u v k));
           counts = rw (fill-leaves c w v h) (ap₂ (λ (m n : ℕ). m + n) (fill-counts c w v h)
               (fill-counts (used c) w′ v (fills-again c w′ v h′) ∙ ap (λ (x : Span). enabledIn x) (used-span f c w′))
-              ∙ (beside-counts s s′ t (reach .0) (reach .1) (reach .2)
+              ∙ (beside-counts s s′ t (reach .2)
               (λ j l. same-on w agrees-first j j l (omega (arith, reach .0)) (omega arith, omega (arith, reach .2)))
               (λ j l. same-on w′ agrees-second (s .width + j) j l (omega (arith, reach .0, reach .1)) (omega arith, omega (arith, reach .2)))
               ∙ sym (fill-counts c u v k)));

@@ -15,7 +15,7 @@ use Rattle.rules.specs.Sequences.{cardAfter}
 use Rattle.demands.proofs.Seam.{transparent-fill}
 use Rattle.demands.proofs.Hatch.{Fills, Across}
 
--- transparent fill, with every other pixel of the mask set
+-- transparent fill, with every other bit of the mask set
 abbrev hatching : Card
 hatching =
     cardAfter

@@ -1,4 +1,5 @@
--- The seam: hatches drawn side by side meet. It is what Ask 1 of the change requests is for. Assumes nothing.
+-- The seam, what Ask 1 of the change requests is for: two fills of one mode whose addresses agree mod 32 give every pixel in both spans the same
+-- mask, the same source and the same enabled. Assumes nothing.
 use mathlib.Core.Path.{_≡_, refl, ap, sym, _∙_}
 use mathlib.Core.Bool.{Bool, true, cond}
 use Prim.Native.Nat.{ℕ, _+_, _-_, _%_, _≤_}

@@ -44,16 +44,16 @@ const ROWS: [[u8; 8]; 8] = [
     [2, 2, 2, 2, 2, 2, 2, 2],
 ];
 
-// A diagonal hatch: the fill mask of each of eight rows.
+// A hatch: the fill mask of each of eight rows. It comes again every 32 pixels, no sooner.
 const HATCH: [u32; 8] = [
-    0x03030303,
-    0x06060606,
-    0x0C0C0C0C,
-    0x18181818,
-    0x30303030,
-    0x60606060,
-    0xC0C0C0C0,
-    0x81818181,
+    0x0000000F,
+    0x000000F0,
+    0x00000F00,
+    0x0000F000,
+    0x000F0000,
+    0x00F00000,
+    0x0F000000,
+    0xF0000000,
 ];
 
 fn register(card: Card, offset: u32, data: u32, vram: &mut [u8]) -> Card {
@@ -67,7 +67,7 @@ fn register(card: Card, offset: u32, data: u32, vram: &mut [u8]) -> Card {
     a.card
 }
 
-// One row of an opaque fill: `width` pixels from column x of row y on, in the foreground colour.
+// One row of a fill: `width` + 1 pixels from column x of row y on.
 fn row(card: Card, x: u8, y: u32, width: u8, vram: &mut [u8]) -> Card {
     let column = x as u32;
     let w = Write {
@@ -194,7 +194,7 @@ fn bedside(vram: &mut [u8; 65536]) -> Card {
 }
 
 // The band in two fills side by side: from column 17, low bits 1, and from column 114, low bits 2. The hatch goes on across the seam,
-// since both addresses are 16 more than a multiple of 32: one fill across both columns draws the same.
+// since both addresses are 16 more than a multiple of 32: one fill across both draws the same.
 fn hatched(card: Card, vram: &mut [u8; 65536]) {
     let before = *vram;
     let mut whole = *vram;

@@ -68,11 +68,12 @@ abbrev pub S6 : Type 0
 S6 =
     (shows fill (frame 0 0x00020005) ≡ zeros 2 ++ (replicate 2 1 ++ (replicate 4 2 ++ zeros 56))) × (counts fill (frame 0 0x00020005) ≡ 6)
 
-abbrev blocks : List Write
-blocks = reg 0x0030 0x2D ∷ reg 0x0140 0x03020100 ∷ reg 0x0144 0x07060504 ∷ reg 0x0080 0xFFFFFFFF ∷ []
+-- block fill with this mask
+abbrev blocks : ℕ → List Write
+blocks mask = reg 0x0030 0x2D ∷ reg 0x0140 0x03020100 ∷ reg 0x0144 0x07060504 ∷ reg 0x0080 mask ∷ []
 
 abbrev pub S7 : Type 0
-S7 = shows blocks (frame 4 3) ≡ zeros 4 ++ (4 ∷ 5 ∷ 6 ∷ 7 ∷ zeros 56)
+S7 = shows (blocks 0xFFFFFFFF) (frame 4 3) ≡ zeros 4 ++ (4 ∷ 5 ∷ 6 ∷ 7 ∷ zeros 56)
 
 abbrev planes : List Write
 planes = reg 0x0028 0x0F ∷ []
@@ -113,15 +114,12 @@ HeldCopy =
 abbrev transparent : List Write
 transparent = reg 0x0030 0x45 ∷ reg 0x0020 0x01010101 ∷ reg 0x0080 0xF ∷ []
 
-abbrev block : List Write
-block = reg 0x0030 0x2D ∷ reg 0x0140 0x03020100 ∷ reg 0x0144 0x07060504 ∷ reg 0x0080 0xF ∷ []
-
 abbrev pub SlidFills : Type 0
 SlidFills =
     (shows transparent (frame 0 0x00020005) ≡ zeros 2 ++ (1 ∷ 1 ∷ zeros 60))
     × (counts transparent (frame 0 0x00020005) ≡ 2)
-    × (shows block (frame 0 0x00020005) ≡ zeros 2 ++ (2 ∷ 3 ∷ zeros 60))
-    × (counts block (frame 0 0x00020005) ≡ 2)
+    × (shows (blocks 0xF) (frame 0 0x00020005) ≡ zeros 2 ++ (2 ∷ 3 ∷ zeros 60))
+    × (counts (blocks 0xF) (frame 0 0x00020005) ≡ 2)
 
 computed : (S1 × S2 × S3 × S4 × S5 × S6 × S7 × S8 × S9 × S10 × S11) × Overlap × HeldCopy × SlidFills
 unfolding cardAfter pictureAfter refusal badLength badSpace badLanes noRegister badMode badRaster offBoundary outside unloaded modeOf frameSpan spansOf spanned effectiveBy count operation layers picture sourced afterFrame afterRegister next resetCard rowAt rowIn table stores byte from before drawn drawnAll counted listed made number result bit

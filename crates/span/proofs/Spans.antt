@@ -1,4 +1,4 @@
--- The laws of spans: what one does at each address, one cut in two, and the strokes that draw it. Assumes nothing.
+-- The laws of spans: what one does at each address, two side by side, one cut in two, and the strokes that draw it. Assumes nothing.
 use mathlib.Core.Path.{_≡_, refl, ap, ap₂, sym, _∙_}
 use mathlib.Core.Bool.{Bool, false, cond}
 use mathlib.Core.List.{List, _++_, append-nil}
@@ -89,12 +89,12 @@ module _ (s t u : Span) (ef : s .first ≡ u .first) (et : t .first ≡ s .first
       each i x (no h) (no l) (no m) =
           join i x (spanned-past mask t i (omega arith)) (spanned-past mask s i (omega arith)) (spanned-past mask u i (omega arith)) refl
 
-  -- and so are their counts, where they enable what the third does
-  pub beside-counts : ((j : ℕ) → j < s .width → s .on j ≡ u .on j) → ((j : ℕ) → j < t .width → t .on j ≡ u .on (s .width + j))
-      → enabledIn s + enabledIn t ≡ enabledIn u
-  beside-counts es et =
-      ap₂ (λ (a b : ℕ). a + b) (counted-same (s .width) es) (counted-same (t .width) et)
-      ∙ (sym (counted-append (s .width) (t .width) (u .on)) ∙ ap (λ (a : ℕ). counted a (u .on)) ew)
+-- and count what it counts, where they enable what it does
+pub beside-counts : (s t u : Span) → s .width + t .width ≡ u .width → ((j : ℕ) → j < s .width → s .on j ≡ u .on j)
+    → ((j : ℕ) → j < t .width → t .on j ≡ u .on (s .width + j)) → enabledIn s + enabledIn t ≡ enabledIn u
+beside-counts s t u e es et =
+    ap₂ (λ (a b : ℕ). a + b) (counted-same (s .width) es) (counted-same (t .width) et)
+    ∙ (sym (counted-append (s .width) (t .width) (u .on)) ∙ ap (λ (a : ℕ). counted a (u .on)) e)
 
 -- a piece of a span does what the span does there
 piece-in : (mask : ℕ → ℕ) (s : Span) (k n i : ℕ) → k + n ≤ s .width → In i (piece k n s) → spanned mask (piece k n s) i ≡ spanned mask s i
@@ -117,7 +117,7 @@ module _ (s : Span) (k n : ℕ) (e : k + n ≡ s .width) where
   -- and so are their counts
   pub cut-counts : enabledIn (piece 0 k s) + enabledIn (piece k n s) ≡ enabledIn s
   cut-counts =
-      beside-counts (piece 0 k s) (piece k n s) s (omega arith) (omega arith) e (λ j h. let z : 0 + j ≡ j = omega arith in ap (s .on) z) (λ j h. refl)
+      beside-counts (piece 0 k s) (piece k n s) s e (λ j h. let z : 0 + j ≡ j = omega arith in ap (s .on) z) (λ j h. refl)
 
 by-four : (phase first j : ℕ) → phase ≡ first % 4 → (phase + j) % 4 ≡ (first + j) % 4
 by-four phase first j h = omega arith

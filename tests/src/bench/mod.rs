@@ -22,7 +22,9 @@ pub fn bench() -> Result<(), String> {
     println!("{}", table.unit);
     println!("Medians of {ROUNDS} rounds of processor time, in which all take turns; a ratio is the median of every round's.");
     if library::OTHER.is_some() {
-        println!("*: the other library draws another picture there, or counts other pixels.");
+        println!(
+            "*: a row in which the other library draws another picture, or counts other pixels."
+        );
     }
     println!("memset and memcpy: one call of the C library's for the bytes of each span.");
     for (raster, plane) in SETS {
