@@ -88,23 +88,16 @@ pub fn block_stipple(card: &Card, vram: &mut [u8], write: Write) -> Answer {
     Ok(write.data.count_ones())
 }
 
-/// What a fill covers.
-struct Fill<'a> {
-    pixels: &'a mut [u8],
-    /// The first pixel modulo 8.
-    first: u32,
-    /// The fill mask, the bit of the first pixel lowest.
-    mask: u32,
-}
-
-fn fill_of<'a>(card: &Card, vram: &'a mut [u8], write: Write) -> Result<Fill<'a>, u32> {
+/// The span of a fill, its first pixel modulo 8, and the fill mask with that pixel's bit lowest.
+fn fill_span<'a>(
+    card: &Card,
+    vram: &'a mut [u8],
+    write: Write,
+) -> Result<(&'a mut [u8], u32, u32), u32> {
     let low = write.data >> 16 & 3;
     let pixels = (write.data & 2047) as usize + 1;
-    Ok(Fill {
-        pixels: span(vram, write.address, 4, low as usize, pixels)?,
-        first: write.address % 8 + low,
-        mask: card.data.rotate_right(low),
-    })
+    let part = span(vram, write.address, 4, low as usize, pixels)?;
+    Ok((part, write.address % 8 + low, card.data.rotate_right(low)))
 }
 
 /// A span on which the changes of thirty-two pixels repeat.
@@ -134,11 +127,7 @@ fn repeated_ones(mask: u32, pixels: usize) -> u32 {
 }
 
 pub fn opaque_fill(card: &Card, vram: &mut [u8], write: Write) -> Answer {
-    let Fill {
-        pixels,
-        first,
-        mask,
-    } = fill_of(card, vram, write)?;
+    let (pixels, first, mask) = fill_span(card, vram, write)?;
     let foreground = drawn(card, twice(card.foreground), first);
     let background = drawn(card, twice(card.background), first);
     fill(pixels, |k| foreground.or(background, spread(mask, k)));
@@ -146,22 +135,14 @@ pub fn opaque_fill(card: &Card, vram: &mut [u8], write: Write) -> Answer {
 }
 
 pub fn transparent_fill(card: &Card, vram: &mut [u8], write: Write) -> Answer {
-    let Fill {
-        pixels,
-        first,
-        mask,
-    } = fill_of(card, vram, write)?;
+    let (pixels, first, mask) = fill_span(card, vram, write)?;
     let foreground = drawn(card, twice(card.foreground), first);
     fill(pixels, |k| foreground.only(spread(mask, k)));
     Ok(repeated_ones(mask, pixels.len()))
 }
 
 pub fn block_fill(card: &Card, vram: &mut [u8], write: Write) -> Answer {
-    let Fill {
-        pixels,
-        first,
-        mask,
-    } = fill_of(card, vram, write)?;
+    let (pixels, first, mask) = fill_span(card, vram, write)?;
     let colours = drawn_block(card, first);
     fill(pixels, |k| colours.only(spread(mask, k)));
     Ok(repeated_ones(mask, pixels.len()))
