@@ -1,6 +1,6 @@
 // Whether bytes are a trace, and a part of them its entries. What that means stands in the crate `format`.
 ghost use mathlib.Core.Path.{_≡_};
-ghost use Rattle.format.specs.Traces.{wellFormed, isTrace, checkNumber, checkLength, checkPart};
+ghost use Rattle.format.specs.Traces.{wellFormed, goodHeader, isTrace, checkNumber, checkLength, checkPart};
 use bounds::bad_length;
 use entries::word_at;
 use format::ENTRY;
@@ -34,11 +34,15 @@ pub fn well_formed(part: &[u8]) -> bool
     true
 }
 
-// The bytes are a trace: a header of 16 bytes (count of entries, offset of entries, VRAM length, total length), then the entries.
-pub fn is_trace(b: &[u8]) -> bool
-    ensures { λ r. ⌜ r ≡ isTrace (now (b .entry)) ⌝ }
+// The bytes begin with the header of a trace: count of entries, offset of entries, VRAM length, total length.
+pub fn good_header(b: &[u8]) -> bool
+    ensures { λ r. ⌜ r ≡ goodHeader (now (b .entry)) ⌝ }
 {
     if b.len() < HEADER {
+        return false;
+    }
+    let entries = word_at(b, 0) as usize;
+    if LARGEST < entries {
         return false;
     }
     if word_at(b, 4) != OFFSET {
@@ -47,12 +51,17 @@ pub fn is_trace(b: &[u8]) -> bool
     if bad_length(word_at(b, 8) as usize) {
         return false;
     }
-    let count = word_at(b, 0) as usize;
-    let total = word_at(b, 12) as usize;
-    if total != HEADER + ENTRY * count {
+    word_at(b, 12) as usize == HEADER + ENTRY * entries
+}
+
+// The bytes are a trace: a header of 16 bytes, then the entries.
+pub fn is_trace(b: &[u8]) -> bool
+    ensures { λ r. ⌜ r ≡ isTrace (now (b .entry)) ⌝ }
+{
+    if !good_header(b) {
         return false;
     }
-    if b.len() != total {
+    if b.len() != word_at(b, 12) as usize {
         return false;
     }
     well_formed(&b[HEADER..])

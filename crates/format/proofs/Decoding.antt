@@ -8,18 +8,18 @@ use native.Mathlib.Omega.{arith}
 use lib.Dec.{eqb, ltb}
 use lib.ListN.{length, drop}
 use lib.Seq.{getD-drop}
-use borrow.Author.Tests.{ltb-false}
+use borrow.Author.Tests.{eq-eqb, ltb-false}
 use Rattle.card.specs.declared.Write.{Write}
 use Rattle.rules.specs.Refusal.{badLength, largestVram}
 use Rattle.rules.proofs.Tests.{neither}
 use Rattle.format.specs.Bytes.{word, bytes}
-use Rattle.format.specs.Traces.{largest, Delivered, header, entry, entries, encoded, writeAt, writesAt, paddedAt, entryCount, writes, wellFormed, isTrace, trace, decoded}
+use Rattle.format.specs.Traces.{largest, Delivered, header, entry, entries, encoded, writeAt, writesAt, paddedAt, entryCount, writes, wellFormed, goodHeader, isTrace, trace, decoded}
 use Rattle.format.proofs.Bytes.{word-bytes, word-drop}
 use Rattle.format.proofs.Padding.{by-padding}
-use Rattle.format.proofs.HeaderTests.{by-entries}
+use Rattle.format.proofs.HeaderTests.{by-total, by-entries}
 
 -- what is read at a of what is left after n is read at n + a
-writeAt-drop : (n : ℕ) (v : List ℕ) (a : ℕ) → writeAt (drop n v) a ≡ writeAt v (n + a)
+pub writeAt-drop : (n : ℕ) (v : List ℕ) (a : ℕ) → writeAt (drop n v) a ≡ writeAt v (n + a)
 unfolding writeAt
 writeAt-drop n v a = simp (getD-drop, word-drop, add-assoc)
 
@@ -125,18 +125,15 @@ module _ (vram : ℕ) (ws : List Write) (good : badLength vram ≡ false) (few :
   unfolding encoded header bytes
   length-encoded = omega (arith, length-entries ws)
 
+  header-fits : goodHeader spelled ≡ true
+  header-fits =
+      sym
+      (by-total spelled (omega (arith, length-encoded)) (sym count-word) few (sym offset-word) refl (sym vram-word) good (sym total-word))
+      ∙ eq-eqb total total refl
+
   pub encoded-trace : isTrace spelled ≡ true
   encoded-trace =
-      sym
-      (by-entries spelled (omega (arith, length-encoded))
-      (sym offset-word)
-      refl
-      (sym vram-word)
-      good
-      (sym count-word)
-      (sym total-word)
-      refl
-      length-encoded)
+      sym (by-entries spelled header-fits (sym total-word) length-encoded)
       ∙ ap wellFormed body
       ∙ entries-formed ws few
 

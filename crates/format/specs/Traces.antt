@@ -72,15 +72,19 @@ writes part = writesAt part 0 (entryCount part)
 unfoldable pub wellFormed : List ℕ → Bool
 wellFormed part = eqb (length part % entrySize) 0 && (leb (entryCount part) largest && paddedAt part 0 (entryCount part))
 
--- the bytes are a trace
-unfoldable pub isTrace : List ℕ → Bool
-isTrace v =
+-- the bytes begin with the header of a trace: at most the largest number of entries, their offset, a VRAM length that number 1 would not
+-- refuse, and the total
+unfoldable pub goodHeader : List ℕ → Bool
+goodHeader v =
     leb headerSize (length v)
+    && (leb (word v 0) largest
     && (eqb (word v 4) headerSize
     && (not (badLength (word v 8))
-    && (eqb (word v 12) (headerSize + entrySize * word v 0)
-    && (eqb (length v) (word v 12)
-    && wellFormed (drop headerSize v)))))
+    && eqb (word v 12) (headerSize + entrySize * word v 0))))
+
+-- the bytes are a trace
+unfoldable pub isTrace : List ℕ → Bool
+isTrace v = goodHeader v && (eqb (length v) (word v 12) && wellFormed (drop headerSize v))
 
 -- what bytes say: a VRAM length and writes, or nothing
 pub data Decoded : Type 0 where
