@@ -1,5 +1,5 @@
-//! A reference model of the scope paper, as Ask 1 of the change requests amends it, written from the papers alone: slow, bit by
-//! bit, and sharing nothing with the engine.
+//! A reference model of the scope paper, as Asks 1 and 2 of the change requests amend it, written from the papers alone: slow,
+//! bit by bit, and sharing nothing with the engine.
 //! Addresses and lengths are handled as u64, so nothing wraps.
 
 pub mod card;
@@ -8,6 +8,7 @@ pub mod mode;
 pub mod pixel;
 pub mod refusal;
 pub mod register;
+pub mod serial;
 pub mod trace;
 
 pub use card::{reset, Card};

@@ -1,0 +1,92 @@
+//! Ask 2, "Traces that arrive over a serial line". The reader keeps every byte it has heard, and judges all of them afresh at
+//! each new one.
+
+use super::refusal::bad_length;
+use super::trace::{check, entry, word, ENTRY, HEADER, MOST_ENTRIES};
+use super::Card;
+
+#[derive(Clone, PartialEq, Eq, Debug)]
+pub struct Reader {
+    /// All bytes so far, the refused one among them; none after it is heard.
+    heard: Vec<u8>,
+    number: u32,
+    entries: u32,
+    pixels: u32,
+}
+
+impl Reader {
+    pub fn new() -> Reader {
+        Reader {
+            heard: Vec::new(),
+            number: 0,
+            entries: 0,
+            pixels: 0,
+        }
+    }
+
+    /// Entries applied.
+    pub fn entries(&self) -> u32 {
+        self.entries
+    }
+
+    /// Total pixels.
+    pub fn pixels(&self) -> u32 {
+        self.pixels
+    }
+
+    /// "After a refusal, later chunks and the end call return the same number and draw nothing."
+    pub fn chunk(&mut self, bytes: &[u8], card: &mut Card, vram: &mut [u8]) -> u32 {
+        // "a VRAM that number 1 forbids answers 1 before any of the chunk is read"
+        if self.number == 0 && bad_length(vram.len() as u64) {
+            self.number = 1;
+        }
+        for byte in bytes {
+            if self.number == 0 {
+                self.heard.push(*byte);
+                self.number = self.judge(card, vram);
+            }
+        }
+        self.number
+    }
+
+    /// "An end call with bytes owed ... answers 10": where none is owed, the bytes heard are a trace.
+    pub fn end(&mut self) -> u32 {
+        if self.number == 0 {
+            self.number = check(&self.heard).0;
+        }
+        self.number
+    }
+
+    /// The number that the newest byte gets.
+    fn judge(&mut self, card: &mut Card, vram: &mut [u8]) -> u32 {
+        // "A bad header answers 10 at its sixteenth byte"
+        if self.heard.len() < HEADER {
+            return 0;
+        }
+        // "a bad pad byte at once"; "a byte past the total, answers 10"
+        if !begins_trace(&self.heard) {
+            return 10;
+        }
+        let at = HEADER + ENTRY * self.entries as usize;
+        if self.heard.len() < at + ENTRY {
+            return 0;
+        }
+        // "draw each entry once it is whole"
+        let (number, count) = super::write(card, vram, entry(&self.heard, at));
+        if number == 0 {
+            self.entries += 1;
+            self.pixels += count;
+        }
+        number
+    }
+}
+
+/// Whether a trace begins with these bytes, a header or more. If any does, they and zeros up to the header's total are one, as
+/// check lets an entry be all zeros. A total too long for any trace is cut, and check then refuses it.
+fn begins_trace(heard: &[u8]) -> bool {
+    let longest = HEADER + ENTRY * MOST_ENTRIES as usize;
+    let total = (word(heard, 12) as usize).min(longest);
+    let mut bytes = vec![0; total.max(heard.len())];
+    bytes[..heard.len()].copy_from_slice(heard);
+    check(&bytes).0 == 0
+}
