@@ -4,11 +4,14 @@
 ghost use mathlib.Core.Path.{_≡_};
 ghost use Rattle.card.specs.Reset.{resetCard};
 ghost use Rattle.answers.specs.Answers.{writeOf, Wrote, Replayed};
+ghost use Rattle.serial.specs.Serial.{newReader, standing, chunk, ended};
 ghost use Rattle.host.specs.Buffers.{Began, Grew, Looked};
 use answers::Answer;
 use answers::Ran;
 use card::Card;
 use card::Write;
+use serial::Fed;
+use serial::Reader;
 
 // What starting, appending and checking answer: the number, and a length in bytes.
 #[repr(C)]
@@ -106,4 +109,31 @@ pub extern "C" fn zevkholtai_check(bytes: &[u8]) -> Checked
     let mut length: u32 = 0;
     checking::check(bytes, &mut number, &mut length);
     Checked { number, length }
+}
+
+// ---- A trace that arrives in chunks: reader and card by value.
+
+// A new reader.
+#[no_mangle]
+pub extern "C" fn zevkholtai_reader() -> Reader
+    ensures { λ r. ⌜ r ≡ newReader ⌝ }
+{
+    serial::new()
+}
+
+// One chunk, with the card and VRAM as the last one left them.
+#[no_mangle]
+pub extern "C" fn zevkholtai_chunk(reader: Reader, card: Card, bytes: &[u8], vram: &mut [u8]) -> Fed
+    ensures { λ f. ⌜
+        standing (f .reader) (f .card) (now (vram .exit)) ≡ chunk (now (bytes .entry)) (standing reader card (now (vram .entry))) ⌝ }
+{
+    serial::chunk(reader, bytes, card, vram)
+}
+
+// The end call.
+#[no_mangle]
+pub extern "C" fn zevkholtai_end(reader: Reader) -> Reader
+    ensures { λ r. ⌜ r ≡ ended reader ⌝ }
+{
+    serial::end(reader)
 }

@@ -1,0 +1,3 @@
+-- What the crate `serial` means: change request 2, a trace that arrives over a serial line.
+pub mod Serial
+pub mod Ahead
