@@ -1,13 +1,11 @@
 -- The tests of a reader, one law for each answer of the code. A test that fails decides, whatever the others say. Assumes nothing.
-use mathlib.Core.Path.{_≡_, refl, ap, sym, _∙_}
-use mathlib.Core.Bool.{Bool, true, false, not, _&&_}
+use mathlib.Core.Path.{_≡_}
+use mathlib.Core.Bool.{false}
 use mathlib.Core.List.{List}
 use Prim.Native.Nat.{ℕ, _+_, _*_, _≤_, _<_}
-use native.Mathlib.Omega.{arith}
 use lib.Dec.{eqb, leb}
 use lib.ListN.{length, getD}
 use borrow.Author.Tests.{eq-eqb, ne-eqb, le-leb, lt-leb, lt-ltb, le-ltb}
-use Rattle.card.specs.Registers.{isSet}
 use Rattle.format.specs.Traces.{largest}
 use Rattle.format.proofs.HeaderTests.{and-false}
 use Rattle.serial.specs.declared.Reader.{Reader}

@@ -2,7 +2,7 @@
 -- their bytes as one chunk, and so are the chunks of any list, those with no byte among them. For every reader, every card and every
 -- picture. Assumes nothing.
 use mathlib.Core.Path.{_≡_, refl, ap, sym, _∙_}
-use mathlib.Core.Bool.{Bool, true, false, not}
+use mathlib.Core.Bool.{Bool, true, false}
 use mathlib.Core.List.{List, [], _∷_, _++_, append-nil}
 use Prim.Native.Nat.{ℕ}
 use native.Mathlib.Omega.{arith}
@@ -12,7 +12,7 @@ use borrow.Author.Tests.{eq-eqb, ne-eqb, eqb-true, eqb-false}
 use Rattle.rules.specs.Refusal.{badLength}
 use Rattle.serial.specs.Serial.{Standing, sticks, byte, reads, sound, chunk, chunks, joined}
 use Rattle.serial.proofs.Steps.{reads-stuck}
-use Rattle.serial.proofs.Kept.{Sound, to-sound, of-sound, reads-size, reads-sound}
+use Rattle.serial.proofs.Kept.{to-sound, of-sound, reads-size, reads-sound}
 
 -- ---- How a chunk begins.
 

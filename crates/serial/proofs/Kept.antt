@@ -1,12 +1,12 @@
 -- What every byte keeps: the length of the picture, and that the reader can be. Assumes nothing.
 use mathlib.Core.Path.{_≡_, refl, ap, sym, _∙_, subst}
-use mathlib.Core.Bool.{Bool, true, false, cond, not, _&&_}
+use mathlib.Core.Bool.{Bool, true, false, cond}
 use mathlib.Core.List.{List, [], _∷_}
-use Prim.Native.Nat.{ℕ, _+_, _*_, _≤_, _<_}
+use Prim.Native.Nat.{ℕ, _*_, _≤_, _<_}
 use native.Mathlib.Omega.{arith}
-use lib.Dec.{eqb, leb}
+use lib.Dec.{eqb}
 use lib.ListN.{length, length-set}
-use borrow.Author.Tests.{eq-eqb, ne-eqb, eqb-true, eqb-false, lt-ltb, ltb-true, le-leb, leb-true, not-true}
+use borrow.Author.Tests.{eq-eqb, ne-eqb, eqb-true, eqb-false, lt-ltb, ltb-true, le-leb, leb-true}
 use Rattle.card.specs.Registers.{isSet}
 use Rattle.card.specs.declared.Write.{Write}
 use Rattle.demands.proofs.Counting.{count-bound}
@@ -28,7 +28,7 @@ unfolding ran
 one-refused w t n = rw (ne-eqb _ _ n)
 
 -- an entry drawn, whichever it was
-by-answer : (p : State → Type 0) (w : Write) (t : State) → (answer t w ≡ 0 → p (apply t w)) → ((answer t w ≡ 0 → ⊥) → p (refuse t w)) → p (ran (w ∷ []) 1 t)
+pub by-answer : (p : State → Type 0) (w : Write) (t : State) → (answer t w ≡ 0 → p (apply t w)) → ((answer t w ≡ 0 → ⊥) → p (refuse t w)) → p (ran (w ∷ []) 1 t)
 by-answer p w t f g = go (eqb (answer t w) 0) refl
   where
     go : (x : Bool) → eqb (answer t w) 0 ≡ x → p (ran (w ∷ []) 1 t)

@@ -6,3 +6,8 @@ pub mod Joining
 pub mod Units
 pub mod Answers
 pub mod Turns
+pub mod Arriving
+pub mod Rules
+pub mod Accepted
+pub mod Demands
+pub mod Samples

@@ -1,21 +1,15 @@
 -- One byte: which of the cases it meets, and what holds after it whichever it was. Assumes nothing.
-use mathlib.Core.Path.{_≡_, refl, ap, sym, _∙_}
-use mathlib.Core.Bool.{Bool, true, false, cond, not, _&&_, _||_}
+use mathlib.Core.Path.{_≡_, refl, ap, _∙_}
+use mathlib.Core.Bool.{Bool, true, false, cond, not, _||_}
 use mathlib.Core.List.{List, [], _∷_}
-use Prim.Native.Nat.{ℕ, _+_, _*_, _≤_, _<_}
-use native.Mathlib.Omega.{arith}
-use lib.Dec.{eqb, ltb, leb}
-use lib.ListN.{length, set}
-use borrow.Author.Tests.{eq-eqb, ne-eqb, eqb-true, eqb-false, lt-ltb, le-ltb, ltb-true, ltb-false, le-leb, leb-true, not-true, not-false}
+use Prim.Native.Nat.{ℕ, _+_, _≤_, _<_}
+use lib.Dec.{eqb, ltb}
+use lib.ListN.{set}
+use borrow.Author.Tests.{eq-eqb, ne-eqb, eqb-true, eqb-false, lt-ltb, le-ltb, ltb-true, ltb-false, not-true, not-false}
 use Rattle.card.specs.Registers.{isSet}
-use Rattle.card.specs.declared.Write.{Write}
 use Rattle.rules.proofs.Tests.{neither}
-use Rattle.demands.proofs.Counting.{count-bound}
-use Rattle.demands.proofs.Demand1.{same-length}
 use Rattle.format.specs.Bytes.{word}
-use Rattle.format.specs.Traces.{largest, writeAt, goodHeader}
-use Rattle.format.proofs.Tested.{both}
-use Rattle.trace.specs.Run.{State, answer, apply, refuse, ran}
+use Rattle.format.specs.Traces.{writeAt, goodHeader}
 use Rattle.serial.specs.declared.Reader.{Reader}
 use Rattle.serial.specs.Serial.{Standing, standing, awaited, complete, badPad, stuck, sticks, waits, headed, opens, draws, byte, reads}
 

@@ -1,15 +1,15 @@
 -- One turn of the loop over a chunk: what is left of the bytes, read from where the reading stands, gives what the whole chunk gives.
 -- Assumes nothing.
-use mathlib.Core.Path.{_≡_, refl, ap, sym, _∙_, subst}
-use mathlib.Core.Bool.{true, false, not}
-use mathlib.Core.List.{List, [], _∷_}
+use mathlib.Core.Path.{_≡_, refl, ap, sym, _∙_}
+use mathlib.Core.Bool.{true, false}
+use mathlib.Core.List.{List}
 use Prim.Native.Nat.{ℕ, suc, _+_, _≤_, _<_}
 use native.Mathlib.Nat.{add-zero}
 use native.Mathlib.Omega.{arith}
 use lib.Dec.{eqb}
 use lib.ListN.{length, getD, drop, length-drop, drop-of-length-le}
 use lib.Seq.{drop-cons, drop-drop, getD-drop}
-use borrow.Author.Tests.{ne-eqb, eqb-true, leb-true, not-true}
+use borrow.Author.Tests.{eqb-true, leb-true, not-true}
 use Rattle.card.specs.Registers.{isSet}
 use Rattle.card.specs.declared.Write.{Write}
 use Rattle.format.specs.Traces.{writeAt}
@@ -40,6 +40,17 @@ whole r v a e =
     let (l, u) = both _ _ z in
     let (p, q) = both _ _ u in
     record { opened = o; none = eqb-true _ _ f; more = simp (o, not-true (eqb (r .applied) (r .announced)) m); long = leb-true _ _ l; first = eqb-true _ _ p; second = eqb-true _ _ q }
+
+-- such an entry is drawn at once
+pub whole-read : (v : List ℕ) (a : ℕ) (s : Standing) → s .reader .number ≡ 0 → length (s .reader .waiting) ≡ 16 → Whole (s .reader) v a
+    → reads (drop a v) s ≡ reads (drop (a + 12) v) (draws (writeAt v a) s)
+whole-read v a s z room w =
+    entry-drawn (drop a v) s z (w .more) (w .none) room (w .opened) (omega (arith, length-drop a v, w .long)) (pad 2 (w .first)) (pad 3 (w .second))
+    ∙ ap (λ (u : List ℕ). reads u (draws (writeAt (drop a v) 0) s)) (drop-drop 12 a v)
+    ∙ ap (λ (x : Write). reads (drop (a + 12) v) (draws x s)) (writeAt-drop a v 0 ∙ ap (writeAt v) (add-zero a))
+  where
+    pad : (i : ℕ) → getD v (a + i) 0 ≡ 0 → getD (drop a v) i 0 ≡ 0
+    pad i p = getD-drop a v i 0 ∙ p
 
 -- where the loop stands at byte a of v: it began at s₀, and is at s
 pub record Going (v : List ℕ) (a : ℕ) (s₀ s : Standing) : Type 0 where
@@ -91,18 +102,5 @@ module _ {v : List ℕ} {a : ℕ} {s₀ s : Standing} (g : Going v a s₀ s) whe
         can-be = ap (λ (x : Standing). sound (x .reader)) e ∙ of-sound _ (draws-sound (writeAt v a) s (w .opened) (w .more) (to-sound _ (g .can-be)));
         room = ap (λ (x : Standing). length (x .reader .waiting)) e ∙ draws-room (writeAt v a) s;
         size = ap (λ (x : Standing). length (x .picture)) e ∙ draws-size (writeAt v a) s ∙ g .size;
-        left = next;
+        left = ap (reads (drop (a + 12) v)) e ∙ sym (whole-read v a s z (g .room) w) ∙ g .left;
       }
-    where
-      pad : (i : ℕ) → getD v (a + i) 0 ≡ 0 → getD (drop a v) i 0 ≡ 0
-      pad i p = getD-drop a v i 0 ∙ p
-
-      next : reads (drop (a + 12) v) t ≡ reads v s₀
-      next =
-          ap (reads (drop (a + 12) v)) e
-          ∙ ap (λ (u : List ℕ). reads u (draws (writeAt v a) s)) (sym (drop-drop 12 a v))
-          ∙ ap (λ (n : ℕ). reads (drop 12 (drop a v)) (draws (writeAt v n) s)) (sym (add-zero a))
-          ∙ ap (λ (x : Write). reads (drop 12 (drop a v)) (draws x s)) (sym (writeAt-drop a v 0))
-          ∙ sym
-          (entry-drawn (drop a v) s z (w .more) (w .none) (g .room) (w .opened) (omega (arith, length-drop a v, w .long)) (pad 2 (w .first)) (pad 3 (w .second)))
-          ∙ g .left

@@ -1,13 +1,13 @@
 -- A header and an entry, once all of their bytes have come. Assumes that the reader has room for 16 bytes, as the reader of the code has.
 use mathlib.Core.Path.{_≡_, refl, ap, sym, _∙_}
-use mathlib.Core.Bool.{Bool, true, false, cond, not, _&&_, _||_}
-use mathlib.Core.List.{List, [], _∷_, _++_}
+use mathlib.Core.Bool.{Bool, true, false, _||_}
+use mathlib.Core.List.{List, _++_}
 use Prim.Native.Nat.{ℕ, zero, suc, _+_, _≤_, _<_}
 use native.Mathlib.Omega.{arith}
 use lib.Dec.{eqb}
-use lib.ListN.{length, getD, take, drop, set, length-append, length-drop, List·getD-append}
+use lib.ListN.{length, getD, take, drop, set, length-append, List·getD-append}
 use lib.Seq.{take-suc, drop-cons, append-snoc, set-at, getD-take, length-take-le}
-use borrow.Author.Tests.{eq-eqb, eqb-true, ne-eqb, le-leb}
+use borrow.Author.Tests.{eqb-true, ne-eqb, le-leb}
 use Rattle.card.specs.Registers.{isSet}
 use Rattle.card.specs.declared.Write.{Write}
 use Rattle.format.specs.Bytes.{word}

@@ -155,3 +155,6 @@ chunks (bs ∷ rest) s = chunks rest (chunk bs s)
 -- the end call: 10 where bytes are owed
 unfoldable pub ended : Reader → Reader
 ended r = cond (isSet (r .number)) r (cond (sound r && complete r) r (stuck 10 r))
+
+abbrev pub finished : Standing → Standing
+finished s = standing (ended (s .reader)) (s .card) (s .picture)

@@ -13,7 +13,7 @@ use Rattle.format.specs.Traces.{header, entry, entries, encoded, writeAt, write
 abbrev s1-write : Write
 s1-write = record { space = 0; lanes = 15; address = 0; «data» = 0x44332211 }
 
-abbrev s12-bytes : List ℕ
+abbrev pub s12-bytes : List ℕ
 s12-bytes =
     0x01 ∷ 0x00 ∷ 0x00 ∷ 0x00
     ∷ 0x10 ∷ 0x00 ∷ 0x00 ∷ 0x00

@@ -1,6 +1,6 @@
 -- `serial::chunks::read` meets its contract. The loop's invariant: what is left of the bytes, read from where the reading stands now,
 -- gives what the whole chunk gives. Assumes nothing.
-use mathlib.Core.Path.{_≡_, ap, sym, _∙_}
+use mathlib.Core.Path.{ap, _∙_}
 use Prim.Native.Nat.{_-_}
 use native.Mathlib.Omega.{arith}
 use lib.ListN.{length}
