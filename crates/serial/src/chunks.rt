@@ -108,7 +108,8 @@ pub fn chunk(reader: Reader, bytes: &[u8], card: Card, vram: &mut [u8]) -> Fed
         standing (f .reader) (f .card) (now (vram .exit)) ≡ chunkOf (now (bytes .entry)) (standing reader card (now (vram .entry))) ⌝ }
 {
     let mut next = reader;
-    if reader.number != 0 {
+    let number = reader.number;
+    if number != 0 {
         return Fed { reader, card };
     }
     if !sound(reader) {
@@ -127,7 +128,8 @@ pub fn end(reader: Reader) -> Reader
     ensures { λ r. ⌜ r ≡ ended reader ⌝ }
 {
     let mut next = reader;
-    if reader.number != 0 {
+    let last = reader.number;
+    if last != 0 {
         return reader;
     }
     if !sound(reader) {
