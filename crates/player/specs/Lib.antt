@@ -1,2 +1,3 @@
 -- What the crate `player` means.
 pub mod Playing
+pub mod Arriving

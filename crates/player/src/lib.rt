@@ -1,7 +1,13 @@
-// Replaying a recorded trace: the run of a whole trace from reset.
+// Replaying a recorded trace: the run of a whole trace from reset, and a trace that arrives in chunks.
 ghost use mathlib.Core.Path.{_≡_};
 ghost use Rattle.player.specs.Playing.{played, pictured};
 use card::Card;
+
+mod arriving;
+
+pub use arriving::close;
+pub use arriving::feed;
+pub use arriving::length_of;
 
 // What replaying a trace answers: what the run answers, and the VRAM length of the trace's header; 0 where it is no trace or the VRAM lent is shorter.
 pub struct Played {
