@@ -1,5 +1,6 @@
 #!/bin/sh
-# The replay as a technician calls it: every recorded trace against its expected picture, exit statuses, and what goes wrong.
+# The replay as a technician calls it: every recorded trace against its expected picture, from its file and as it arrives on standard input,
+# exit statuses, and what goes wrong.
 set -eu
 tests=$(CDPATH='' cd -- "$(dirname -- "$0")" && pwd)
 front=$tests/../zevkholtai
@@ -31,6 +32,70 @@ case_is() {
     { printf 'P5\n%s %s\n255\n' "$width" $((bytes / width)); cat "$tests/cases/$name.expected"; } | cmp -s - "$picture" ||
         wrong "$name: another picture"
     passed=$((passed + 1))
+    arrives_as "$name" "$width" cat "$tests/cases/$name.trace"
+}
+
+# The trace of the last case, as the command writes it to standard input: the same status, lines and picture as from its file.
+arrives_as() {
+    name=$1 width=$2 before=$got
+    shift 2
+    mv "$room/out" "$room/want"
+    "$@" | {
+        status - "$room/arrived.pgm" "$width"
+        [ "$got" -eq "$before" ] || wrong "$name arriving: exit status $got, not $before"
+    }
+    got=$before
+    cmp -s "$room/out" "$room/want" || wrong "$name arriving: it said $(cat "$room/out")"
+    cmp -s "$room/arrived.pgm" "$room/$name.pgm" || wrong "$name arriving: another picture"
+    passed=$((passed + 1))
+}
+
+# A trace that arrives broken, as the command writes it: status 1, and 10 with these entries, pixels and length of VRAM.
+breaks_as() {
+    what=$1 entries=$2 pixels=$3 bytes=$4 width=$5
+    shift 5
+    rm -f "$room/broken.pgm"
+    "$@" | {
+        status - "$room/broken.pgm" "$width"
+        [ "$got" -eq 1 ] || wrong "$what: exit status $got, not 1"
+    }
+    printf 'number 10\nentries %s\npixels %s\nvram %s\n' "$entries" "$pixels" "$bytes" | cmp -s - "$room/out" ||
+        wrong "$what: it said $(cat "$room/out")"
+    [ "$bytes" -gt 0 ] || [ ! -e "$room/broken.pgm" ] || wrong "$what: it left a picture"
+    passed=$((passed + 1))
+}
+
+# A number as four bytes, the lowest first.
+word() {
+    for byte in $(($1 % 256)) $(($1 / 256 % 256)) $(($1 / 65536 % 256)) $(($1 / 16777216)); do
+        # shellcheck disable=SC2059 # the format is the byte
+        printf "\\$(printf %03o "$byte")"
+    done
+}
+
+# The trace of the first N entries of the one in the file, for the same VRAM.
+first_entries() {
+    word "$1"
+    word 16
+    tail -c +9 "$2" | head -c 4
+    word $((16 + 12 * $1))
+    tail -c +17 "$2" | head -c $((12 * $1))
+}
+
+# A file in pieces, with pauses between them: a part of the header, of an entry, and the rest.
+in_pieces() {
+    from=1
+    for size in 1 9 13 600 7; do
+        tail -c +"$from" "$1" | head -c "$size"
+        from=$((from + size))
+        sleep 0.1
+    done
+    tail -c +"$from" "$1"
+}
+
+# A file byte by byte.
+byte_by_byte() {
+    dd if="$1" bs=1 2>/dev/null
 }
 
 # An error: status 2, a line on standard error, and no picture.
@@ -69,6 +134,29 @@ status "$room/cut.trace" "$room/none.pgm" 8
 [ "$got" -eq 1 ] || wrong "a cut trace: exit status $got, not 1"
 [ ! -e "$room/none.pgm" ] || wrong "a cut trace left a picture"
 printf 'number 10\nentries 0\npixels 0\nvram 0\n' | cmp -s - "$room/out" || wrong "a cut trace: it said $(cat "$room/out")"
+
+# a trace that arrives in pieces, or with the sender still there after its last byte
+trace=$tests/cases/l8-000.trace
+status "$trace" "$room/l8-000.pgm" 8
+arrives_as l8-000 8 in_pieces "$trace"
+arrives_as l8-000 8 byte_by_byte "$trace"
+
+# one that breaks off, goes on past its total, or is none: what was drawn so far is left. 40 entries and 5 bytes arrive.
+first_entries 40 "$trace" >"$room/first.trace"
+status "$room/first.trace" "$room/first.pgm" 8
+[ "$got" -eq 0 ] || wrong "the first entries: exit status $got, not 0"
+drawn=$(sed -n 's/^pixels //p' "$room/out")
+[ "$drawn" -gt 0 ] || wrong "the first entries draw nothing"
+breaks_as 'a trace that breaks off' 40 "$drawn" 512 8 head -c $((16 + 12 * 40 + 5)) "$trace"
+cmp -s "$room/broken.pgm" "$room/first.pgm" || wrong "a trace that breaks off: another picture"
+breaks_as 'an endless stream after a trace' 40 "$drawn" 512 8 cat "$room/first.trace" /dev/zero
+cmp -s "$room/broken.pgm" "$room/first.pgm" || wrong "an endless stream after a trace: another picture"
+breaks_as 'a header and no more' 0 0 512 8 head -c 16 "$trace"
+breaks_as 'a part of a header' 0 0 0 8 head -c 15 "$trace"
+breaks_as 'an endless stream' 0 0 0 8 cat /dev/zero
+breaks_as 'no input' 0 0 0 8 true
+error_is 'WIDTH does not divide' - "$room/none.pgm" 7 <"$trace"
+error_is 'standard input: Is a directory' - "$room/none.pgm" <"$room"
 
 # held planes stay zero
 status "$tests/cases/x8-009.trace" "$room/held.pgm" 512 ff

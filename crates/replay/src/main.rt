@@ -1,7 +1,11 @@
 // replay TRACE [PICTURE [WIDTH [HELD]]]: runs a recorded trace whole from reset on a zeroed VRAM of its header's length, and says how it went.
+// Where TRACE is `-` it is read from standard input, and drawn as it arrives.
 // PICTURE is a file for the picture, a binary PGM of WIDTH columns (512 where it is not given); HELD is the held planes, two hexadecimal digits.
+mod arriving;
+
 use bounds::LARGEST_VRAM;
 use libc::STDERR_FILENO;
+use libc::STDIN_FILENO;
 use libc::STDOUT_FILENO;
 use player::Played;
 use typed::Number;
@@ -65,7 +69,8 @@ fn divides(width: usize, n: usize) -> bool {
     true
 }
 
-// The picture, in the file that the second argument names. After a refused entry it is the picture so far.
+// The picture, in the file that the second argument names. After a refused entry, or where the trace broke off as it arrived, it is the picture
+// so far.
 fn save(vram: &[u8], n: usize, width: usize) {
     if os::arg_count() < 3 || n == 0 {
         return;
@@ -78,38 +83,62 @@ fn save(vram: &[u8], n: usize, width: usize) {
     }
 }
 
-// Runs the trace in the file, says how it went, and leaves the picture.
-fn run(file: i32, width: usize, held: u8, vram: &mut [u8]) {
+// Says how it went, and leaves the picture.
+fn tell(p: Played, width: usize, vram: &[u8]) {
+    answer(p);
+    save(vram, p.length, width);
+}
+
+// The trace in the file, whole.
+fn run_file(file: i32, width: usize, held: u8, vram: &mut [u8]) {
     let mut bytes = io::large_buffer();
     let n = io::read_full(file, &mut bytes);
     if format::HEADER + format::ENTRY * format::LARGEST < n {
         complain(b"the trace is larger than the limit");
         return;
     }
-    let p = player::play(&bytes[..n], held, vram);
-    answer(p);
-    save(vram, p.length, width);
+    tell(player::play(&bytes[..n], held, vram), width, vram);
 }
 
-fn run_lent(file: i32, width: usize, held: u8, vram: &mut [u8; LARGEST_VRAM]) {
-    run(file, width, held, vram);
+// The trace on standard input, as it arrives.
+fn run_arriving(input: i32, width: usize, held: u8, vram: &mut [u8]) {
+    tell(arriving::run(input, held, vram), width, vram);
 }
 
-fn run_zeroed(file: i32, width: usize, held: u8) {
+fn run(arrives: bool, file: i32, width: usize, held: u8, vram: &mut [u8; LARGEST_VRAM]) {
+    if arrives {
+        run_arriving(file, width, held, vram);
+    } else {
+        run_file(file, width, held, vram);
+    }
+}
+
+fn run_zeroed(arrives: bool, file: i32, width: usize, held: u8) {
     let mut vram = [0u8; LARGEST_VRAM];
-    run_lent(file, width, held, &mut vram);
+    run(arrives, file, width, held, &mut vram);
 }
 
-// Opens the trace that the first argument names, and runs it.
+fn is_dash(name: &[u8]) -> bool {
+    if name.len() != 1 {
+        return false;
+    }
+    name[0] == b'-'
+}
+
+// Opens the trace that the first argument names, and runs it; `-` is standard input.
 fn replay(width: usize, held: u8) {
     let mut path = io::buffer();
     let n = os::arg(1, &mut path);
+    if is_dash(&path[..n]) {
+        run_zeroed(true, STDIN_FILENO, width, held);
+        return;
+    }
     let file = os::open_read(&path[..n]);
     if file < 0 {
         os::fail(&path[..n]);
         return;
     }
-    run_zeroed(file, width, held);
+    run_zeroed(false, file, width, held);
     libc::close(file);
 }
 
@@ -130,7 +159,7 @@ fn with_arguments() {
 fn main() {
     let count = os::arg_count();
     if count < 2 || 5 < count {
-        complain(b"usage: replay TRACE [PICTURE [WIDTH [HELD]]]");
+        complain(b"usage: replay TRACE [PICTURE [WIDTH [HELD]]], where TRACE may be -");
     } else {
         with_arguments();
     }
