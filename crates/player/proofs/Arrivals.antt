@@ -1,8 +1,8 @@
 -- A trace that arrives in chunks on the front of a VRAM, case by case, and however it is cut into chunks. Assumes nothing.
 use mathlib.Core.Path.{_≡_, refl, ap, ap₂, _∙_}
 use mathlib.Core.Bool.{Bool, true, false, cond}
-use mathlib.Core.List.{List, _++_}
-use Prim.Native.Nat.{ℕ, _-_, _≤_, _<_}
+use mathlib.Core.List.{List, [], _++_, append-nil}
+use Prim.Native.Nat.{ℕ, _-_, _^_, _≤_, _<_}
 use native.Mathlib.Nat.{sub-zero}
 use native.Mathlib.Omega.{arith}
 use lib.Dec.{eqb, leb}
@@ -10,16 +10,21 @@ use lib.ListN.{length, take, drop, length-append, length-drop}
 use lib.Seq.{length-take-le, take-at, drop-at}
 use borrow.Author.Tests.{le-leb, lt-leb, leb-true, eqb-true, eqb-false}
 use Rattle.card.specs.declared.Card.{Card}
+use Rattle.card.specs.Reset.{resetCard}
 use Rattle.rules.specs.Refusal.{badLength}
 use Rattle.format.specs.Bytes.{wordAt}
-use Rattle.format.specs.Traces.{goodHeader}
+use Rattle.format.specs.Traces.{goodHeader, isTrace, entryCount, checkNumber, checkPart, checkLength}
 use Rattle.format.proofs.Inside.{word-inside}
-use Rattle.format.proofs.Tested.{headed}
-use Rattle.serial.specs.Serial.{Standing, standing, sound, chunk}
+use Rattle.format.proofs.Tested.{headed, formed, traced}
+use Rattle.trace.specs.Run.{State}
+use Rattle.serial.specs.Serial.{newReader, Standing, standing, stateOf, sound, chunk, chunks, joined, finished}
 use Rattle.serial.specs.declared.Reader.{Reader}
 use Rattle.serial.proofs.Kept.{reads-size}
 use Rattle.serial.proofs.Joining.{chunk-stuck, chunk-unsound, chunk-bad, chunk-reads, two-chunks}
-use Rattle.player.specs.Arriving.{lengthOf, fed, before}
+use Rattle.serial.proofs.Accepted.{one-whole-run}
+use Rattle.player.specs.declared.Played.{Played}
+use Rattle.player.specs.Playing.{whole, played, pictured}
+use Rattle.player.specs.Arriving.{lengthOf, fed, before, closed}
 
 -- ---- The length that a header says.
 
@@ -106,3 +111,35 @@ two-feeds n xs ys s =
     let m = fits n (size s) in
     let h = fits-in n (size s) in
     ap (λ (k : ℕ). before (fits n k) ys (before m xs s)) (before-size xs ys s m h) ∙ two-before xs ys s m h
+
+-- ---- A trace fed whole answers what replaying it from a file answers, and leaves the same VRAM. By `two-feeds` it may be fed in any pieces.
+
+module _ (v : List ℕ) (held : ℕ) (p : List ℕ) (trace : isTrace v ≡ true) (long : checkLength v ≤ length p) where
+  abbrev n : ℕ
+  n = checkLength v
+
+  abbrev begun : List ℕ → Standing
+  begun u = standing newReader (resetCard held) u
+
+  few : entryCount (checkPart v) ≤ 2 ^ 32 - 1
+  unfolding checkPart
+  few = let part : checkPart v ≡ drop 16 v = simp trace in omega (arith, ap entryCount part, formed _ (traced v trace .entries) .few)
+
+  runs : stateOf (finished (chunk v (begun (take n p)))) ≡ whole v held p
+  unfolding chunks joined
+  runs = one-whole-run v (resetCard held) (take n p) v [] (append-nil v) (2 ^ 32 - 1) trace few
+
+  abbrev answered : State → Played
+  answered t = record { number = t .number; entries = t .applied; pixels = t .pixels; length = n }
+
+  accepted : eqb (checkNumber v) 0 ≡ true
+  unfolding checkNumber
+  accepted = simp trace
+
+  pub as-from-a-file : closed (fed n v (begun p) .reader) n ≡ played v held p
+  unfolding fed before closed played
+  as-from-a-file = simp (le-leb n (length p) long, accepted) (ap answered runs)
+
+  pub pictured-as-from-a-file : fed n v (begun p) .picture ≡ pictured v held p
+  unfolding fed before pictured
+  pictured-as-from-a-file = simp (le-leb n (length p) long, accepted) (ap (λ (t : State). t .picture ++ drop n p) runs)

@@ -1,14 +1,15 @@
 -- `serial::chunks::end` meets its contract: the tests in their order. Assumes nothing.
+use mathlib.Core.Path.{sym}
 use borrow.Author.Needs.{needs}
-use borrow.Author.Tests.{eq-eqb, ne-eqb, not-true, not-false}
+use borrow.Author.Tests.{eq-eqb, not-true, not-false}
 use Rattle.rules.proofs.Tests.{said}
 use Rattle.serial.specs.Serial.{complete, ended}
+use Rattle.serial.proofs.Arriving.{ended-stuck}
 use Rattle.serial.proofs.chunks.end.Statement.{statement}
 use Rattle.serial.proofs.chunks.end.Tie as tie
 
 returns : tie.Need-returns
-unfolding ended
-returns c = simp (ne-eqb _ _ (c .if1 .taken))
+returns c = sym (ended-stuck _ (c .if1 .taken))
 
 sound-requires : tie.Need-sound-requires
 sound-requires c κs = search needs
