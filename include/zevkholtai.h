@@ -1,9 +1,9 @@
 /* The drawing engine of the DECchip 21030 (TGA card, 8 bits per pixel), for hosts in C and C++. Link libhost.a.
  *
- * The host keeps the card and its video memory (VRAM) and lends them to each call; the library keeps nothing, allocates
- * nothing and makes no system call. The caller sees to this: a pointer is valid for the length beside it, and not null
- * also where that is 0; the places lent to one call do not overlap. All else is promised for every input: every pattern of
- * bytes is a card.
+ * The host keeps the card and its video memory (VRAM) and lends them to each call, but a trace that arrives in chunks takes
+ * the card and its reader by value and gives them back. The library keeps nothing, allocates nothing and makes no system
+ * call. The caller sees to this: a pointer is valid for the length beside it, and not null also where that is 0; the places
+ * lent to one call do not overlap. All else is promised for every input: every pattern of bytes is a card, and a reader.
  *
  * Every answer has a number, the lowest that applies, but 10 comes before all others:
  *
@@ -83,6 +83,23 @@ struct zevkholtai_ran {
     uint32_t rest;    /* the unread part begins at this byte of the part: 12 * entries */
 };
 
+/* What waits between two chunks of a trace: 40 bytes, no padding. */
+struct zevkholtai_reader {
+    uint32_t number;     /* what the last call answered; it sticks where it is not 0 */
+    uint32_t opened;     /* a mark: the header is read */
+    uint32_t announced;  /* entries that the header announces */
+    uint32_t applied;    /* entries applied: at most those announced, and 4,096 */
+    uint32_t pixels;     /* total count of these: at most 8,388,608 */
+    uint32_t filled;     /* bytes that wait, of a header or an entry that is not whole yet */
+    uint8_t waiting[16]; /* these, in front */
+};
+
+/* What a chunk leaves, for the next one. */
+struct zevkholtai_fed {
+    struct zevkholtai_reader reader;
+    struct zevkholtai_card card;
+};
+
 /* Every register and mark at reset, whatever the card was before, with the planes that are 1 in `held` held. */
 void zevkholtai_reset(struct zevkholtai_card *card, uint8_t held);
 
@@ -111,6 +128,30 @@ struct zevkholtai_checked zevkholtai_check(const uint8_t *bytes, size_t size);
 struct zevkholtai_ran zevkholtai_run(struct zevkholtai_card *card, const uint8_t *part, size_t size, uint8_t *vram,
                                      size_t length, uint32_t budget);
 
+/* A trace that arrives over a serial line, in chunks of any length, is read by a new reader for each trace; the host stores
+ * what each call gives back, and hands it to the next. The bytes may be cut anywhere: in one chunk or many, the last number,
+ * card, picture and totals are the same. For bytes that zevkholtai_check accepts they are those of one whole run. */
+struct zevkholtai_reader zevkholtai_reader(void);
+
+/* Reads a chunk, with the card and VRAM as the last one left them, and draws each entry once it is whole. `reader.number` is
+ * the answer:
+ *
+ *    1  the VRAM's length, for an empty chunk too; no byte of the chunk is read
+ *   10  a bad header, at its sixteenth byte; a nonzero pad byte, at once; a byte past the header's total
+ *
+ * or, 2 to 9, the number of a refused entry. What was drawn before stays, and that number sticks: later chunks and end calls
+ * answer it, and change nothing.
+ *
+ * A reader answers 10, before 1, and nothing else changes, where as many bytes wait as a header or an entry has, or more,
+ * more entries are applied than announced, over 4,096 are announced, or there are more than 2,048 pixels an entry: no bytes
+ * can leave it so. */
+struct zevkholtai_fed zevkholtai_chunk(struct zevkholtai_reader reader, struct zevkholtai_card card, const uint8_t *bytes,
+                                       size_t size, uint8_t *vram, size_t length);
+
+/* Says that no more bytes come. Answers 10 where bytes are owed, or for such a reader; else 0, and changes nothing. A number
+ * that sticks comes first. */
+struct zevkholtai_reader zevkholtai_end(struct zevkholtai_reader reader);
+
 #ifdef __cplusplus
 }
 #define ZEVKHOLTAI_HOLDS(fact) static_assert(fact, #fact)
@@ -119,6 +160,7 @@ struct zevkholtai_ran zevkholtai_run(struct zevkholtai_card *card, const uint8_t
 #endif
 
 #define ZEVKHOLTAI_AT(field, offset) ZEVKHOLTAI_HOLDS(offsetof(struct zevkholtai_card, field) == (offset))
+#define ZEVKHOLTAI_READS(field, offset) ZEVKHOLTAI_HOLDS(offsetof(struct zevkholtai_reader, field) == (offset))
 ZEVKHOLTAI_HOLDS(sizeof(struct zevkholtai_registers) == 56);
 ZEVKHOLTAI_HOLDS(sizeof(struct zevkholtai_mask) == 8);
 ZEVKHOLTAI_HOLDS(sizeof(struct zevkholtai_copier) == 72);
@@ -126,6 +168,9 @@ ZEVKHOLTAI_HOLDS(sizeof(struct zevkholtai_card) == 140);
 ZEVKHOLTAI_HOLDS(sizeof(struct zevkholtai_answer) == 8);
 ZEVKHOLTAI_HOLDS(sizeof(struct zevkholtai_checked) == 8);
 ZEVKHOLTAI_HOLDS(sizeof(struct zevkholtai_ran) == 16);
+ZEVKHOLTAI_HOLDS(sizeof(struct zevkholtai_reader) == 40);
+ZEVKHOLTAI_HOLDS(sizeof(struct zevkholtai_fed) == 180);
+ZEVKHOLTAI_HOLDS(offsetof(struct zevkholtai_fed, card) == 40);
 ZEVKHOLTAI_AT(registers.foreground, 0);
 ZEVKHOLTAI_AT(registers.background, 4);
 ZEVKHOLTAI_AT(registers.plane, 8);
@@ -139,6 +184,14 @@ ZEVKHOLTAI_AT(copier.buffer, 64);
 ZEVKHOLTAI_AT(copier.loaded, 128);
 ZEVKHOLTAI_AT(copier.writing, 132);
 ZEVKHOLTAI_AT(held, 136);
+ZEVKHOLTAI_READS(number, 0);
+ZEVKHOLTAI_READS(opened, 4);
+ZEVKHOLTAI_READS(announced, 8);
+ZEVKHOLTAI_READS(applied, 12);
+ZEVKHOLTAI_READS(pixels, 16);
+ZEVKHOLTAI_READS(filled, 20);
+ZEVKHOLTAI_READS(waiting, 24);
+#undef ZEVKHOLTAI_READS
 #undef ZEVKHOLTAI_AT
 #undef ZEVKHOLTAI_HOLDS
 
