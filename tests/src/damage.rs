@@ -4,15 +4,19 @@ use crate::generate::Maker;
 use crate::model::trace::{self, ENTRY, HEADER};
 use crate::model::{self, refusal, Write};
 
-/// Writes for a trace from reset, made on a model card as it goes; few are refused, so that runs are long.
-pub fn writes(maker: &mut Maker, length: usize, entries: usize) -> Vec<Write> {
+/// Of the refused writes that come up one in so many is taken into a trace, so that runs are long.
+pub const FEW: u64 = 60;
+
+/// Writes for a trace from reset, made on a model card as it goes; one in `rare` refused ones is taken, all on a VRAM that 1
+/// forbids.
+pub fn writes(maker: &mut Maker, length: usize, entries: usize, rare: u64) -> Vec<Write> {
     let mut card = model::reset(0);
     let mut vram = vec![0; length];
     let mut list = Vec::new();
     while list.len() < entries {
         let write = maker.write(&card, length);
         let refused = model::write(&mut card, &mut vram, write).0 != 0;
-        let wanted = !refused || refusal::bad_length(length as u64) || maker.random.one_in(60);
+        let wanted = !refused || refusal::bad_length(length as u64) || maker.random.one_in(rare);
         if wanted {
             list.push(write);
         }

@@ -1,6 +1,7 @@
-//! The engine against the model: the recorded traces, then numbered cases of writes, of traces and of calipers.
+//! The engine against the model: the recorded traces, then numbered cases of writes, of traces, of calipers and of serial lines.
 
 use super::calls::Calls;
+use super::serial::{self, Met};
 use super::{all_reached, caliper, traces, writes, Other, Outcome, WRITE_CASES};
 use crate::coverage::Coverage;
 use crate::engine;
@@ -8,9 +9,10 @@ use crate::generate::Maker;
 use crate::random::Random;
 use crate::recorded;
 
-/// Cases from `WRITE_CASES` on are traces, and from this number on calipers.
+/// Cases from `WRITE_CASES` on are traces, from this number on calipers, and then serial lines.
 const FIRST_CALIPER: u64 = WRITE_CASES + 4_000;
-pub const CASES: u64 = FIRST_CALIPER + 1_000;
+const FIRST_LINE: u64 = FIRST_CALIPER + 1_000;
+pub const CASES: u64 = FIRST_LINE + 3_000;
 
 pub(super) const ENGINE: Other = Other {
     reset: engine::reset,
@@ -25,14 +27,17 @@ pub fn compare(seed: u64, first: u64, last: u64) -> Outcome {
     let mut coverage = Coverage::new();
     let mut calls = Calls::new();
     let mut shown = 0;
+    let mut met = Met::new();
     for case in first..=last {
         let mut maker = Maker::new(Random::of_case(seed, case));
         let outcome = if case < WRITE_CASES {
             writes::case(&ENGINE, &mut maker, &mut coverage)
         } else if case < FIRST_CALIPER {
             traces::case(&mut maker, &mut calls)
-        } else {
+        } else if case < FIRST_LINE {
             caliper::case(&mut maker).map(|shows| shown += u64::from(shows))
+        } else {
+            serial::case(&mut maker, &mut met, case - FIRST_LINE)
         };
         outcome.map_err(|why| {
             format!(
@@ -43,9 +48,10 @@ pub fn compare(seed: u64, first: u64, last: u64) -> Outcome {
     coverage.print();
     calls.print();
     println!("calipers drawn, and taken off again: {shown}");
+    met.print();
     println!("no difference");
     if first == 0 && last + 1 == CASES {
-        let mut missing = [coverage.missing(), calls.missing()].concat();
+        let mut missing = [coverage.missing(), calls.missing(), met.missing()].concat();
         if shown == 0 {
             missing.push(String::from("a caliper that shows"));
         }

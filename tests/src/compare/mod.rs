@@ -8,6 +8,8 @@ mod calls;
 pub mod engine;
 pub mod plain;
 #[cfg(feature = "engine")]
+mod serial;
+#[cfg(feature = "engine")]
 mod traces;
 mod writes;
 

@@ -17,7 +17,7 @@ pub fn case(maker: &mut Maker, calls: &mut Calls) -> Outcome {
     } else {
         maker.random.below(50) as usize
     };
-    let writes = damage::writes(maker, length, entries);
+    let writes = damage::writes(maker, length, entries, damage::FEW);
     written(maker, calls, length, &writes[..entries.min(50)])?;
     let whole = damage::whole(length, &writes);
     lengthened(maker, calls, &whole)?;
@@ -147,7 +147,7 @@ fn run_in_pieces(maker: &mut Maker, calls: &mut Calls, part: &[u8], length: usiz
 }
 
 /// Most runs start from reset, some from another card, good or bad.
-fn card_for_run(maker: &mut Maker) -> Result<Card, String> {
+pub(super) fn card_for_run(maker: &mut Maker) -> Result<Card, String> {
     let card = fresh_card(&ENGINE, maker)?;
     Ok(match maker.random.below(12) {
         0 => maker.bad_card(&card),

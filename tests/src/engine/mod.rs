@@ -3,6 +3,7 @@
 
 pub mod card;
 pub mod entries;
+pub mod reader;
 
 use crate::model::{self, trace, Write};
 use card::Card;

@@ -8,6 +8,7 @@ pub mod mode;
 pub mod pixel;
 pub mod refusal;
 pub mod register;
+#[cfg(feature = "engine")]
 pub mod serial;
 pub mod trace;
 
