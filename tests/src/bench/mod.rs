@@ -6,8 +6,9 @@ mod rows;
 mod side;
 mod table;
 mod timing;
+mod traces;
 
-use rows::VRAM;
+use rows::{TURNS, VRAM};
 use timing::ROUNDS;
 
 /// Raster operation and plane mask of each set of rows.
@@ -33,6 +34,11 @@ pub fn bench() -> Result<(), String> {
         for row in rows::rows(raster, plane) {
             table.print_row(&row, &timing::measure(&row)?);
         }
+    }
+    println!("\na trace of {TURNS} mixed entries");
+    table.print_heading();
+    for (row, way) in traces::rows() {
+        table.print_row(&row, &traces::measure(&row, way)?);
     }
     Ok(())
 }

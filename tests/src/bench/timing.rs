@@ -21,9 +21,9 @@ pub enum Timed {
 }
 
 pub struct Times {
-    /// Seconds that a turn took in each round: none for the other library where there is no other, or for memset and memcpy where
-    /// no pixels are.
-    rounds: [[Option<f64>; 5]; ROUNDS],
+    /// Seconds that a turn took in each round: none for the other library where there is no other or it is not asked, or for
+    /// memset and memcpy where no pixels are.
+    pub rounds: [[Option<f64>; 5]; ROUNDS],
     /// The other library draws another picture, or counts other pixels: it has another rule.
     pub other_rule: bool,
 }
@@ -74,7 +74,7 @@ pub fn measure(row: &Row) -> Result<Times, String> {
 }
 
 /// Seconds for each turn, over as many passes as fill a round.
-fn timed<T>(mut pass: impl FnMut() -> T) -> f64 {
+pub fn timed<T>(mut pass: impl FnMut() -> T) -> f64 {
     let start = processor_time();
     let mut turns = 0;
     loop {

@@ -71,6 +71,16 @@ pub type WriteEntry = unsafe extern "C" fn(
     length: usize,
 ) -> Answer;
 
+/// A library's entry for a run.
+pub type RunEntry = unsafe extern "C" fn(
+    card: *mut c_void,
+    part: *const u8,
+    size: usize,
+    vram: *mut u8,
+    length: usize,
+    budget: u32,
+) -> Ran;
+
 /// One write on a card, which must be one of the entry's library.
 pub unsafe fn write(
     entry: WriteEntry,

@@ -1,0 +1,100 @@
+//! A trace of mixed entries from reset: run whole, and read in chunks. The plain implementation makes its writes one by one.
+
+use super::library::{self, OTHER, THIS};
+use super::rows::{Row, TURNS, VRAM};
+use super::timing::{timed, Times};
+use crate::damage;
+use crate::engine::card::Card;
+use crate::engine::reader::{fed, Fed, Reader};
+use crate::fast;
+use crate::generate::Maker;
+use crate::model::trace::HEADER;
+use crate::model::{self, Write};
+use crate::random::Random;
+
+#[derive(Clone, Copy)]
+pub enum Way {
+    Run,
+    /// Chunks of up to so many bytes.
+    Chunks(usize),
+}
+
+const WAYS: [(&str, Way); 3] = [
+    ("run whole", Way::Run),
+    ("read in one chunk", Way::Chunks(usize::MAX)),
+    ("read in chunks of 64", Way::Chunks(64)),
+];
+
+/// The rows, with what each measures. Spans differ from entry to entry, so no pixels are shown.
+pub fn rows() -> impl Iterator<Item = (Row, Way)> {
+    let mut maker = Maker::new(Random::of_case(1, 2));
+    // None is refused: so rare a one does not come up.
+    let writes = damage::writes(&mut maker, VRAM, TURNS, u64::MAX);
+    WAYS.into_iter().map(move |(name, way)| {
+        let row = Row {
+            name: String::from(name),
+            setting: Vec::new(),
+            writes: writes.clone(),
+            pixels: 0,
+            places: Vec::new(),
+        };
+        (row, way)
+    })
+}
+
+pub fn measure(row: &Row, way: Way) -> Result<Times, String> {
+    let picture = Random::of_case(1, 1).bytes(VRAM);
+    let mut vrams = [picture.clone(), picture.clone(), picture];
+    let bytes = damage::whole(VRAM, &row.writes);
+    let run = |library, vram: &mut [u8]| library::run(library, &bytes[HEADER..], vram);
+    let engine = |vram: &mut [u8]| match way {
+        Way::Run => run(THIS, vram),
+        Way::Chunks(size) => read(&bytes, size, vram),
+    };
+    // A library that was made before the reader has none.
+    let other = OTHER.filter(|_| matches!(way, Way::Run));
+    let wanted = written(&row.writes, &mut vrams[2]);
+    if wanted.0 != 0 {
+        return Err(format!("{}: a write is refused", row.name));
+    }
+    if engine(&mut vrams[0]) != wanted || vrams[0] != vrams[2] {
+        return Err(format!("{}: the sides differ", row.name));
+    }
+    let other_rule =
+        other.is_some_and(|other| run(other, &mut vrams[1]) != wanted || vrams[1] != vrams[2]);
+    let rounds = std::array::from_fn(|_| {
+        // In the order of `Timed`.
+        [
+            Some(timed(|| engine(&mut vrams[0]))),
+            other.map(|other| timed(|| run(other, &mut vrams[1]))),
+            Some(timed(|| written(&row.writes, &mut vrams[2]))),
+            None,
+            None,
+        ]
+    });
+    Ok(Times { rounds, other_rule })
+}
+
+/// The number and the total pixels of a trace that a new reader gets in chunks.
+fn read(bytes: &[u8], size: usize, vram: &mut [u8]) -> (u32, u32) {
+    let mut line = Fed {
+        reader: Reader::new(),
+        card: Card::from(&model::reset(0)),
+    };
+    for chunk in bytes.chunks(size) {
+        line = fed(line.reader, line.card, chunk, vram);
+    }
+    (line.reader.end(), line.reader.pixels)
+}
+
+fn written(writes: &[Write], vram: &mut [u8]) -> (u32, u32) {
+    let mut card = fast::reset(0);
+    let mut refused = 0;
+    let mut pixels = 0;
+    for &write in writes {
+        let (number, count) = fast::write(&mut card, vram, write);
+        refused |= number;
+        pixels += count;
+    }
+    (refused, pixels)
+}
