@@ -38,7 +38,7 @@ static void record_bars(void) {
 /* Feeds the first `size` bytes to a new reader, from reset, on an empty picture. Every other chunk has no byte. What a chunk
  * leaves is stored, and handed to the next. */
 static struct zevkholtai_fed feed(size_t size) {
-    struct zevkholtai_fed line = {.reader = zevkholtai_reader()};
+    struct zevkholtai_fed line = {.reader = zevkholtai_new_reader()};
     zevkholtai_reset(&line.card, 0);
     memset(fed, 0, SIZE);
     for (size_t at = 0; at < size; at += CHUNK) {

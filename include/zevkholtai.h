@@ -131,7 +131,7 @@ struct zevkholtai_ran zevkholtai_run(struct zevkholtai_card *card, const uint8_t
 /* A trace that arrives over a serial line, in chunks of any length, is read by a new reader for each trace; the host stores
  * what each call gives back, and hands it to the next. The bytes may be cut anywhere: in one chunk or many, the last number,
  * card, picture and totals are the same. For bytes that zevkholtai_check accepts they are those of one whole run. */
-struct zevkholtai_reader zevkholtai_reader(void);
+struct zevkholtai_reader zevkholtai_new_reader(void);
 
 /* Reads a chunk, with the card and VRAM as the last one left them, and draws each entry once it is whole. `reader.number` is
  * the answer:

@@ -115,7 +115,7 @@ pub extern "C" fn zevkholtai_check(bytes: &[u8]) -> Checked
 
 // A new reader.
 #[no_mangle]
-pub extern "C" fn zevkholtai_reader() -> Reader
+pub extern "C" fn zevkholtai_new_reader() -> Reader
     ensures { λ r. ⌜ r ≡ newReader ⌝ }
 {
     serial::new()

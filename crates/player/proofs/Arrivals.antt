@@ -1,26 +1,25 @@
 -- A trace that arrives in chunks on the front of a VRAM, case by case, and however it is cut into chunks. Assumes nothing.
 use mathlib.Core.Path.{_≡_, refl, ap, ap₂, _∙_}
 use mathlib.Core.Bool.{Bool, true, false, cond}
-use mathlib.Core.List.{List, [], _++_, append-nil}
+use mathlib.Core.List.{List, [], _∷_, _++_, append-nil}
 use Prim.Native.Nat.{ℕ, _-_, _^_, _≤_, _<_}
 use native.Mathlib.Nat.{sub-zero}
 use native.Mathlib.Omega.{arith}
 use lib.Dec.{eqb, leb}
 use lib.ListN.{length, take, drop, length-append, length-drop}
 use lib.Seq.{length-take-le, take-at, drop-at}
-use borrow.Author.Tests.{le-leb, lt-leb, leb-true, eqb-true, eqb-false}
+use borrow.Author.Tests.{le-leb, lt-leb, leb-true}
 use Rattle.card.specs.declared.Card.{Card}
 use Rattle.card.specs.Reset.{resetCard}
-use Rattle.rules.specs.Refusal.{badLength}
 use Rattle.format.specs.Bytes.{wordAt}
 use Rattle.format.specs.Traces.{goodHeader, isTrace, entryCount, checkNumber, checkPart, checkLength}
 use Rattle.format.proofs.Inside.{word-inside}
 use Rattle.format.proofs.Tested.{headed, formed, traced}
 use Rattle.trace.specs.Run.{State}
-use Rattle.serial.specs.Serial.{newReader, Standing, standing, stateOf, sound, chunk, chunks, joined, finished}
+use Rattle.serial.specs.Serial.{newReader, Standing, standing, stateOf, chunk, chunks, joined, finished}
 use Rattle.serial.specs.declared.Reader.{Reader}
-use Rattle.serial.proofs.Kept.{reads-size}
-use Rattle.serial.proofs.Joining.{chunk-stuck, chunk-unsound, chunk-bad, chunk-reads, two-chunks}
+use Rattle.serial.proofs.Joining.{two-chunks}
+use Rattle.serial.proofs.Demands.{held-planes}
 use Rattle.serial.proofs.Accepted.{one-whole-run}
 use Rattle.player.specs.declared.Played.{Played}
 use Rattle.player.specs.Playing.{whole, played, pictured}
@@ -61,13 +60,8 @@ abbrev size : Standing → ℕ
 size s = length (s .picture)
 
 chunk-size : (bs : List ℕ) (s : Standing) → size (chunk bs s) ≡ size s
-chunk-size bs s = go (eqb (s .reader .number) 0) (sound (s .reader)) (badLength (size s)) refl refl refl
-  where
-    go : (x y z : Bool) → eqb (s .reader .number) 0 ≡ x → sound (s .reader) ≡ y → badLength (size s) ≡ z → size (chunk bs s) ≡ size s
-    go false y z e _ _ = ap size (chunk-stuck bs s (eqb-false _ _ e))
-    go true false z e f _ = ap size (chunk-unsound bs s (eqb-true _ _ e) f)
-    go true true true e f g = ap size (chunk-bad bs s (eqb-true _ _ e) f g)
-    go true true false e f g = ap size (chunk-reads bs s f g) ∙ reads-size bs s
+unfolding chunks
+chunk-size bs s = held-planes (bs ∷ []) s .size
 
 -- as many bytes as are fed: n, or none
 abbrev fits : ℕ → ℕ → ℕ

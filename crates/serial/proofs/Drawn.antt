@@ -9,26 +9,27 @@ use Rattle.engine.specs.Contract.{Written}
 use Rattle.rules.proofs.Outcome.{picture-refused}
 use Rattle.trace.specs.Run.{State, answer, apply, refuse}
 use Rattle.serial.specs.declared.Reader.{Reader}
-use Rattle.serial.specs.Serial.{Standing, stateOf, empty, standing, draws}
+use Rattle.serial.specs.Serial.{Standing, standing, stateOf, counted, draws}
 use Rattle.serial.proofs.Kept.{one-applied, one-refused}
 
--- the reader r after an entry, with this number and these totals
-abbrev after : Reader → ℕ → ℕ → ℕ → Reader
-after r n applied pixels =
-    record { number = n; opened = r .opened; announced = r .announced; applied = applied; pixels = pixels; filled = 0; waiting = empty }
-
 module _ (r : Reader) (c : Card) (w : Write) (v : List ℕ) {a : Answer} {v′ : List ℕ} (done : Written c w v a v′) where
-  -- as the run's state has it
-  abbrev lands : State → Standing
-  lands t = standing (after r (t .number) (t .applied) (t .pixels)) (t .card) (t .picture)
+  abbrev before : State
+  before = stateOf (standing r c v)
 
-  pub drew-refused : (a .number ≡ 0 → ⊥) → standing (after r (a .number) (r .applied) (r .pixels)) c v′ ≡ draws w (standing r c v)
+  -- where the reading stands after an entry that left the run at t
+  abbrev lands : State → Standing
+  lands t = standing (counted t r) (t .card) (t .picture)
+
+  pub drew-refused : (a .number ≡ 0 → ⊥)
+      → lands (record { number = a .number; applied = r .applied; pixels = r .pixels; card = c; picture = v′ }) ≡ draws w (standing r c v)
   unfolding draws refuse
   drew-refused h =
-      let refuses : answer (stateOf (standing r c v)) w ≡ 0 → ⊥ = λ e. h (done .number ∙ e) in
-      cc (done .number, done .shows ∙ picture-refused c w v refuses) ∙ ap lands (sym (one-refused w (stateOf (standing r c v)) refuses))
+      let refuses : answer before w ≡ 0 → ⊥ = λ e. h (done .number ∙ e) in
+      cc (done .number, done .shows ∙ picture-refused c w v refuses) ∙ ap lands (sym (one-refused w before refuses))
 
-  pub drew-applied : a .number ≡ 0 → standing (after r 0 (r .applied + 1) (r .pixels + a .tally .enabled)) (a .card) v′ ≡ draws w (standing r c v)
+  pub drew-applied : a .number ≡ 0
+      → lands (record { number = 0; applied = r .applied + 1; pixels = r .pixels + a .tally .enabled; card = a .card; picture = v′ })
+      ≡ draws w (standing r c v)
   unfolding draws apply
   drew-applied h =
-      cc (done .counts, done .leaves, done .shows) ∙ ap lands (sym (one-applied w (stateOf (standing r c v)) (sym (done .number) ∙ h)))
+      cc (done .counts, done .leaves, done .shows) ∙ ap lands (sym (one-applied w before (sym (done .number) ∙ h)))

@@ -68,52 +68,49 @@ stuck n r =
     }
 
 abbrev pub sticks : ℕ → Standing → Standing
-sticks n s = record { reader = stuck n (s .reader); card = s .card; picture = s .picture }
+sticks n s = standing (stuck n (s .reader)) (s .card) (s .picture)
 
--- the bytes that came wait for more
-unfoldable pub waits : List ℕ → Standing → Standing
-waits came s =
-    let r = s .reader in
+-- the bytes that came, one more than before, wait for others
+abbrev pub kept : List ℕ → Reader → Reader
+kept came r =
     record {
-      reader = record {
-        number = r .number;
-        opened = r .opened;
-        announced = r .announced;
-        applied = r .applied;
-        pixels = r .pixels;
-        filled = r .filled + 1;
-        waiting = came;
-      };
-      card = s .card;
-      picture = s .picture;
+      number = r .number;
+      opened = r .opened;
+      announced = r .announced;
+      applied = r .applied;
+      pixels = r .pixels;
+      filled = r .filled + 1;
+      waiting = came;
     }
+
+unfoldable pub waits : List ℕ → Standing → Standing
+waits came s = standing (kept came (s .reader)) (s .card) (s .picture)
 
 -- a header is whole: it announces so many entries, none applied yet
 abbrev pub headed : ℕ → Reader → Reader
 headed count r = record { number = r .number; opened = 1; announced = count; applied = 0; pixels = 0; filled = 0; waiting = empty }
 
 unfoldable pub opens : ℕ → Standing → Standing
-opens count s = record { reader = headed count (s .reader); card = s .card; picture = s .picture }
+opens count s = standing (headed count (s .reader)) (s .card) (s .picture)
 
--- an entry is whole: it is run as the next one of a trace
-unfoldable pub draws : Write → Standing → Standing
-draws w s =
-    let t = ran (w ∷ []) 1 (stateOf s) in
+-- an entry is whole: it is run as the next one of a trace, and its number and totals are the run's
+abbrev pub counted : State → Reader → Reader
+counted t r =
     record {
-      reader = record {
-        number = t .number;
-        opened = s .reader .opened;
-        announced = s .reader .announced;
-        applied = t .applied;
-        pixels = t .pixels;
-        filled = 0;
-        waiting = empty;
-      };
-      card = t .card;
-      picture = t .picture;
+      number = t .number;
+      opened = r .opened;
+      announced = r .announced;
+      applied = t .applied;
+      pixels = t .pixels;
+      filled = 0;
+      waiting = empty;
     }
 
--- what one byte does
+unfoldable pub draws : Write → Standing → Standing
+draws w s = let t = ran (w ∷ []) 1 (stateOf s) in standing (counted t (s .reader)) (t .card) (t .picture)
+
+-- what one byte does: nothing where a number sticks; 10 past the total and for a bad pad byte; what is unfinished waits; a whole entry is
+-- drawn; a whole header opens the trace, or answers 10
 unfoldable pub byte : Standing → ℕ → Standing
 byte s b =
     let r = s .reader in

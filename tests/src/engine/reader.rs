@@ -36,7 +36,7 @@ const _: () = {
 };
 
 extern "C" {
-    fn zevkholtai_reader() -> Reader;
+    fn zevkholtai_new_reader() -> Reader;
     fn zevkholtai_chunk(
         reader: Reader,
         card: Card,
@@ -64,7 +64,7 @@ pub fn fed(reader: Reader, card: Card, bytes: &[u8], vram: &mut [u8]) -> Fed {
 
 impl Reader {
     pub fn new() -> Reader {
-        unsafe { zevkholtai_reader() }
+        unsafe { zevkholtai_new_reader() }
     }
 
     pub fn chunk(&mut self, bytes: &[u8], card: &mut model::Card, vram: &mut [u8]) -> u32 {
