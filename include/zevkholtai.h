@@ -5,7 +5,8 @@
  * call. The caller sees to this: a pointer is valid for the length beside it, and not null also where that is 0; the places
  * lent to one call do not overlap. All else is promised for every input: every pattern of bytes is a card, and a reader.
  *
- * Every answer has a number, the lowest that applies, but 10 comes before all others:
+ * Every answer has a number, the lowest that applies, but 10 comes before all others; for a trace that arrives in chunks see
+ * zevkholtai_chunk:
  *
  *    0  accepted
  *    1  the VRAM length is 0, no multiple of 64, or over 2,097,152
@@ -83,13 +84,14 @@ struct zevkholtai_ran {
     uint32_t rest;    /* the unread part begins at this byte of the part: 12 * entries */
 };
 
-/* What waits between two chunks of a trace: 40 bytes, no padding. */
+/* What waits between two chunks of a trace: 40 bytes, no padding. After any calls from a new reader, applied is at most
+ * announced and 4,096, and pixels at most 8,388,608. */
 struct zevkholtai_reader {
     uint32_t number;     /* what the last call answered; it sticks where it is not 0 */
     uint32_t opened;     /* a mark: the header is read */
     uint32_t announced;  /* entries that the header announces */
-    uint32_t applied;    /* entries applied: at most those announced, and 4,096 */
-    uint32_t pixels;     /* total count of these: at most 8,388,608 */
+    uint32_t applied;    /* entries applied */
+    uint32_t pixels;     /* total count of these */
     uint32_t filled;     /* bytes that wait, of a header or an entry that is not whole yet */
     uint8_t waiting[16]; /* these, in front */
 };
@@ -142,9 +144,9 @@ struct zevkholtai_reader zevkholtai_new_reader(void);
  * or, 2 to 9, the number of a refused entry. What was drawn before stays, and that number sticks: later chunks and end calls
  * answer it, and change nothing.
  *
- * A reader answers 10, before 1, and nothing else changes, where as many bytes wait as a header or an entry has, or more,
- * more entries are applied than announced, over 4,096 are announced, or there are more than 2,048 pixels an entry: no bytes
- * can leave it so. */
+ * A reader whose number is 0 answers 10, before 1, and nothing else changes, where 16 bytes or more wait, 12 or more once
+ * the header is read, more entries are applied than announced, over 4,096 are announced, or there are more than 2,048 pixels
+ * an entry: no bytes can leave it so. */
 struct zevkholtai_fed zevkholtai_chunk(struct zevkholtai_reader reader, struct zevkholtai_card card, const uint8_t *bytes,
                                        size_t size, uint8_t *vram, size_t length);
 

@@ -1,4 +1,5 @@
-// What a C program needs: the card stands in its memory, and each entry changes it there.
+// What a C program needs: the card stands in its memory, and each entry changes it there; the entries of the serial reader take reader and card by
+// value instead, and what they mean stands in the crate `serial`.
 // include/zevkholtai.h declares these functions. What the entries on a card mean stands in the crates `card` (reset) and `answers`, what those on a
 // buffer mean in specs/Buffers.antt.
 ghost use mathlib.Core.Path.{_≡_};
@@ -127,7 +128,7 @@ pub extern "C" fn zevkholtai_chunk(reader: Reader, card: Card, bytes: &[u8], vra
     ensures { λ f. ⌜
         standing (f .reader) (f .card) (now (vram .exit)) ≡ chunk (now (bytes .entry)) (standing reader card (now (vram .entry))) ⌝ }
 {
-    serial::chunk(reader, bytes, card, vram)
+    serial::chunk(reader, card, bytes, vram)
 }
 
 // The end call.

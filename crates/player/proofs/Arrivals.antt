@@ -1,5 +1,5 @@
 -- A trace that arrives in chunks on the front of a VRAM, case by case, and however it is cut into chunks. Assumes nothing.
-use mathlib.Core.Path.{_≡_, refl, ap, ap₂, _∙_}
+use mathlib.Core.Path.{_≡_, refl, ap, ap₂, sym, _∙_}
 use mathlib.Core.Bool.{Bool, true, false, cond}
 use mathlib.Core.List.{List, [], _∷_, _++_, append-nil}
 use Prim.Native.Nat.{ℕ, _-_, _^_, _≤_, _<_}
@@ -19,11 +19,12 @@ use Rattle.trace.specs.Run.{State}
 use Rattle.serial.specs.Serial.{newReader, Standing, standing, stateOf, chunk, chunks, joined, finished}
 use Rattle.serial.specs.declared.Reader.{Reader}
 use Rattle.serial.proofs.Joining.{two-chunks}
+use Rattle.serial.proofs.Units.{header-front, word-front}
 use Rattle.serial.proofs.Demands.{held-planes}
 use Rattle.serial.proofs.Accepted.{one-whole-run}
 use Rattle.player.specs.declared.Played.{Played}
 use Rattle.player.specs.Playing.{whole, played, pictured}
-use Rattle.player.specs.Arriving.{lengthOf, fed, before, closed}
+use Rattle.player.specs.Arriving.{lengthOf, fed, fedAll, before, closed}
 
 -- ---- The length that a header says.
 
@@ -99,18 +100,29 @@ module _ (xs ys : List ℕ) (s : Standing) (m : ℕ) (h : m ≤ size s) where
       (drop-at (t .picture) past m fills)
       ∙ ap (λ (e : Standing). standing (e .reader) (e .card) (e .picture ++ past)) (two-chunks xs ys start)
 
-pub two-feeds : (n : ℕ) (xs ys : List ℕ) (s : Standing) → fed n ys (fed n xs s) ≡ fed n (xs ++ ys) s
+two-feeds : (n : ℕ) (xs ys : List ℕ) (s : Standing) → fed n ys (fed n xs s) ≡ fed n (xs ++ ys) s
 unfolding fed
 two-feeds n xs ys s =
     let m = fits n (size s) in
     let h = fits-in n (size s) in
     ap (λ (k : ℕ). before (fits n k) ys (before m xs s)) (before-size xs ys s m h) ∙ two-before xs ys s m h
 
--- ---- A trace fed whole answers what replaying it from a file answers, and leaves the same VRAM. By `two-feeds` it may be fed in any pieces.
+-- any list of one or more
+any-feeds : (n : ℕ) (bs : List ℕ) (rest : List (List ℕ)) (s : Standing) → fedAll n (bs ∷ rest) s ≡ fed n (joined (bs ∷ rest)) s
+unfolding fedAll joined
+any-feeds n bs [] s = ap (λ (xs : List ℕ). fed n xs s) (sym (append-nil bs))
+any-feeds n bs (next ∷ rest) s = any-feeds n next rest (fed n bs s) ∙ two-feeds n bs (joined (next ∷ rest)) s
+
+-- ---- A trace that arrives in any pieces, on a VRAM that is long enough for it, answers what replaying it from a file answers, and leaves the same VRAM.
 
 module _ (v : List ℕ) (held : ℕ) (p : List ℕ) (trace : isTrace v ≡ true) (long : checkLength v ≤ length p) where
   abbrev n : ℕ
   n = checkLength v
+
+  -- the header's 16 bytes say the length
+  pub length-in-the-header : lengthOf (take 16 v) ≡ n
+  unfolding lengthOf checkLength
+  length-in-the-header = let t = traced v trace in simp (trace, header-front v (t .header) ∙ t .good) (word-front v 8 (t .header) (omega arith))
 
   abbrev begun : List ℕ → Standing
   begun u = standing newReader (resetCard held) u
@@ -130,10 +142,15 @@ module _ (v : List ℕ) (held : ℕ) (p : List ℕ) (trace : isTrace v ≡ true)
   unfolding checkNumber
   accepted = simp trace
 
-  pub as-from-a-file : closed (fed n v (begun p) .reader) n ≡ played v held p
-  unfolding fed before closed played
-  as-from-a-file = simp (le-leb n (length p) long, accepted) (ap answered runs)
+  module _ (bs : List ℕ) (rest : List (List ℕ)) (cut : joined (bs ∷ rest) ≡ v) where
+    as-one : fedAll n (bs ∷ rest) (begun p) ≡ fed n v (begun p)
+    as-one = any-feeds n bs rest (begun p) ∙ ap (λ (xs : List ℕ). fed n xs (begun p)) cut
 
-  pub pictured-as-from-a-file : fed n v (begun p) .picture ≡ pictured v held p
-  unfolding fed before pictured
-  pictured-as-from-a-file = simp (le-leb n (length p) long, accepted) (ap (λ (t : State). t .picture ++ drop n p) runs)
+    pub as-from-a-file : closed (fedAll n (bs ∷ rest) (begun p) .reader) n ≡ played v held p
+    unfolding fed before closed played
+    as-from-a-file = ap (λ (s : Standing). closed (s .reader) n) as-one ∙ simp (le-leb n (length p) long, accepted) (ap answered runs)
+
+    pub pictured-as-from-a-file : fedAll n (bs ∷ rest) (begun p) .picture ≡ pictured v held p
+    unfolding fed before pictured
+    pictured-as-from-a-file =
+        ap (λ (s : Standing). s .picture) as-one ∙ simp (le-leb n (length p) long, accepted) (ap (λ (t : State). t .picture ++ drop n p) runs)

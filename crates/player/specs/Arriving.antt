@@ -1,6 +1,6 @@
 -- A trace that arrives in chunks, replayed on the front of a VRAM.
 use mathlib.Core.Bool.{cond}
-use mathlib.Core.List.{List, _++_}
+use mathlib.Core.List.{List, [], _∷_, _++_}
 use Prim.Native.Nat.{ℕ}
 use lib.Dec.{leb}
 use lib.ListN.{length, take, drop}
@@ -23,6 +23,11 @@ before m bs s =
 -- on the first n; on none where there are fewer, which a reader that goes on answers with 1
 unfoldable pub fed : ℕ → List ℕ → Standing → Standing
 fed n bs s = before (cond (leb n (length (s .picture))) n 0) bs s
+
+-- chunk after chunk
+unfoldable pub fedAll : ℕ → List (List ℕ) → Standing → Standing
+fedAll n [] s = s
+fedAll n (bs ∷ rest) s = fedAll n rest (fed n bs s)
 
 -- what is answered when the input ends: what the end call answers, and the length
 unfoldable pub closed : Reader → ℕ → Played

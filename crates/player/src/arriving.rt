@@ -18,16 +18,16 @@ pub fn length_of(header: &[u8]) -> usize
     }
 }
 
-// One chunk, on the first n bytes of VRAM. Where it has fewer, on none of them, which the reader answers with 1.
+// One chunk, on the first n bytes of VRAM. Where it has fewer, on none of them, which a reader that goes on answers with 1.
 pub fn feed(reader: Reader, card: Card, bytes: &[u8], n: usize, vram: &mut [u8]) -> Fed
     ensures { λ f. ⌜
         standing (f .reader) (f .card) (now (vram .exit))
         ≡ fed n (now (bytes .entry)) (standing reader card (now (vram .entry))) ⌝ }
 {
     if vram.len() < n {
-        return serial::chunk(reader, bytes, card, &mut vram[0..0]);
+        return serial::chunk(reader, card, bytes, &mut vram[0..0]);
     }
-    serial::chunk(reader, bytes, card, &mut vram[0..n])
+    serial::chunk(reader, card, bytes, &mut vram[0..n])
 }
 
 // The input ends: what is answered of a trace for a VRAM of `length` bytes.

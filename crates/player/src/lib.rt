@@ -9,7 +9,8 @@ pub use arriving::close;
 pub use arriving::feed;
 pub use arriving::length_of;
 
-// What replaying a trace answers: what the run answers, and the VRAM length of the trace's header; 0 where it is no trace or the VRAM lent is shorter.
+// What replaying a trace answers: what the run or the end call answers, and the VRAM length of the trace's header. `play` answers 0 for it where it is no
+// trace or the VRAM lent is shorter, `close` what it is given.
 pub struct Played {
     pub number: u32,
     pub entries: u32,

@@ -1,4 +1,5 @@
-// A trace that arrives on standard input: each read is fed as soon as it has come, and no more is kept than the reader's own state.
+// A trace that arrives on standard input. The header's 16 bytes are gathered first, since the length of VRAM stands there; then each read is fed as soon
+// as it has come, and nothing is kept but the reader's own state.
 ghost use Rattle.io.specs.Counts.{Counts};
 use bounds::LARGEST_VRAM;
 use card::Card;

@@ -10,6 +10,7 @@ use Rattle.format.specs.Traces.{largest}
 use Rattle.format.proofs.HeaderTests.{and-false}
 use Rattle.serial.specs.declared.Reader.{Reader}
 use Rattle.serial.specs.Serial.{awaited, sound}
+use Rattle.serial.specs.Arrival.{entryThere}
 use Rattle.serial.specs.Ahead.{wholeAt}
 
 module _ (r : Reader) where
@@ -47,14 +48,14 @@ module _ (r : Reader) where
     all-applied h = simp (eq-eqb _ _ h, and-false)
 
     pub too-short : length v < a + 12 → false ≡ wholeAt r v a
-    unfolding wholeAt
+    unfolding wholeAt entryThere
     too-short h = simp (lt-leb _ _ h, and-false)
 
     pub first-pad-set : (getD v (a + 2) 0 ≡ 0 → ⊥) → false ≡ wholeAt r v a
-    unfolding wholeAt
+    unfolding wholeAt entryThere
     first-pad-set h = simp (ne-eqb _ _ h, and-false)
 
     pub by-second-pad : (r .opened ≡ 0 → ⊥) → r .filled ≡ 0 → (r .applied ≡ r .announced → ⊥) → a + 12 ≤ length v → getD v (a + 2) 0 ≡ 0
         → eqb (getD v (a + 3) 0) 0 ≡ wholeAt r v a
-    unfolding wholeAt
+    unfolding wholeAt entryThere
     by-second-pad o f m l z = simp (ne-eqb _ _ o, eq-eqb _ _ f, ne-eqb _ _ m, le-leb _ _ l, eq-eqb _ _ z)

@@ -1,7 +1,7 @@
 -- From a new reader, however the bytes are cut into chunks, the number, the entries applied, the total pixels, the card and the picture
 -- after the end call are those of `Arrival.arrives`; 1 where VRAM has a forbidden length. Assumes nothing.
 use mathlib.Core.Path.{_≡_, refl, ap, sym, _∙_}
-use mathlib.Core.Bool.{Bool, true, false, cond, not}
+use mathlib.Core.Bool.{Bool, true, false, cond}
 use mathlib.Core.List.{List, [], _∷_}
 use Prim.Native.Nat.{ℕ, zero, suc, _+_, _≤_, _<_}
 use native.Mathlib.Nat.{add-zero, zero-add}
@@ -16,17 +16,17 @@ use Rattle.card.specs.declared.Write.{Write}
 use Rattle.rules.specs.Refusal.{badLength}
 use Rattle.format.specs.Bytes.{word}
 use Rattle.format.specs.Traces.{writeAt, goodHeader}
-use Rattle.format.proofs.Tested.{both, headed}
+use Rattle.format.proofs.Tested.{headed}
 use Rattle.format.proofs.HeaderTests.{and-false}
 use Rattle.trace.specs.Run.{State, nothing, answer, apply, refuse}
 use Rattle.serial.specs.declared.Reader.{Reader}
-use Rattle.serial.specs.Serial.{newReader, Standing, standing, stateOf, awaited, complete, stuck, sticks, waits, opens, draws, byte, reads, sound, chunk, chunks, joined, ended, finished}
+use Rattle.serial.specs.Serial.{newReader, Standing, standing, stateOf, awaited, complete, stuck, sticks, waits, opens, draws, reads, sound, chunk, chunks, joined, ended, finished}
 use Rattle.serial.specs.Arrival.{breaks, entryThere, entriesArrive, arrives}
 use Rattle.serial.proofs.Steps.{came, Step, stays, refuses, waiting, drawing, opening, step, byte-past, reads-stuck}
-use Rattle.serial.proofs.Kept.{Sound, of-sound, new-sound, one-applied, one-refused, draws-sound, draws-room}
+use Rattle.serial.proofs.Kept.{new-can-be, Sound, of-sound, one-applied, one-refused, draws-sound, draws-room}
 use Rattle.serial.proofs.Joining.{chunk-bad, chunk-reads, any-chunks}
 use Rattle.serial.proofs.Units.{partly, first-pad, second-pad, header-opens, header-refused}
-use Rattle.serial.proofs.Turns.{Whole, whole-read}
+use Rattle.serial.proofs.Turns.{there, Whole, whole-read}
 
 -- ---- The end call.
 
@@ -162,11 +162,8 @@ module _ (v : List ℕ) where
       more : complete (s .reader) ≡ false
       more = simp (h .opened, ne-eqb (s .reader .applied) (s .reader .announced) (λ z. omega (arith, e, z)))
 
-      there : entryThere v a ≡ true → Whole (s .reader) v a
-      there f =
-          let (x, y) = both _ _ f in
-          let (p, q) = both _ _ y in
-          record { opened = h .opened; none = h .none; more = more; long = leb-true _ _ x; first = eqb-true _ _ p; second = eqb-true _ _ q }
+      stands : entryThere v a ≡ true → Whole (s .reader) v a
+      stands f = record { opened = h .opened; none = h .none; more = more; stands = there v a f }
 
       go : (x y : Bool) → entryThere v a ≡ x → eqb (answer (stateOf s) w) 0 ≡ y
           → (Between (draws w s) → draws w s .reader .applied + k ≡ draws w s .reader .announced → a + 12 ≤ length v
@@ -177,12 +174,12 @@ module _ (v : List ℕ) where
       go true true f g r =
           let z = eqb-true _ _ g in
           let counts = ap (λ (t : State). t .applied) (drawn-applied w s z) in
-          ap (λ (t : Standing). stateOf (finished t)) (whole-read v a s (h .free) (h .room) (there f))
-          ∙ r (between-next w s h more z) (omega (arith, counts, e)) (there f .long)
+          ap (λ (t : Standing). stateOf (finished t)) (whole-read v a s (h .free) (h .room) (stands f))
+          ∙ r (between-next w s h more z) (omega (arith, counts, e)) (stands f .stands .long)
           ∙ ap (entriesArrive v k (a + 12)) (drawn-applied w s z)
       go true false f g r =
           let n = eqb-false _ _ g in
-          ap (λ (t : Standing). stateOf (finished t)) (whole-read v a s (h .free) (h .room) (there f))
+          ap (λ (t : Standing). stateOf (finished t)) (whole-read v a s (h .free) (h .room) (stands f))
           ∙ stopped (drop (a + 12) v) (draws w s) (λ z. n (sym (ap (λ (t : State). t .number) (drawn-refused w s n)) ∙ z))
           ∙ drawn-refused w s n
 
@@ -229,11 +226,11 @@ module _ (v : List ℕ) (c : Card) (p : List ℕ) where
     pub arriving : badLength (length p) ≡ false → stateOf (finished last) ≡ arrives v c p
     unfolding newReader
     arriving g =
-        ap (λ (t : Standing). stateOf (finished t)) (as-one ∙ chunk-reads v (fresh c p) (of-sound newReader new-sound) g) ∙ all-read
+        ap (λ (t : Standing). stateOf (finished t)) (as-one ∙ chunk-reads v (fresh c p) new-can-be g) ∙ all-read
 
     -- 1 where VRAM has a forbidden length
     pub arriving-bad : badLength (length p) ≡ true → stateOf (finished last) ≡ nothing 1 c p
     unfolding newReader reads
     arriving-bad g =
-        ap (λ (t : Standing). stateOf (finished t)) (as-one ∙ chunk-bad v (fresh c p) refl (of-sound newReader new-sound) g)
+        ap (λ (t : Standing). stateOf (finished t)) (as-one ∙ chunk-bad v (fresh c p) refl new-can-be g)
         ∙ stopped [] (sticks 1 (fresh c p)) (λ z. omega (arith, z))

@@ -1,10 +1,10 @@
 -- Demands 1 and 2 over traces that arrive in chunks. What was drawn before a number stays, and after it nothing is drawn; the held planes keep
--- every bit through any list of chunks; the totals never exceed those of a run. For every card and picture, and, but where a new
--- reader is named, for every reader. Assumes nothing.
+-- every bit through any list of chunks; the totals keep the bounds of a run's. For every card and picture; each law says for which readers.
+-- Assumes nothing.
 use mathlib.Core.Path.{_≡_, refl, ap, sym, _∙_, subst}
 use mathlib.Core.Bool.{Bool, true, false, cond, _&&_}
 use mathlib.Core.List.{List, [], _∷_}
-use Prim.Native.Nat.{ℕ, zero, suc, _+_, _≤_, _<_}
+use Prim.Native.Nat.{ℕ, zero, suc, _+_, _-_, _*_, _≤_, _<_}
 use native.Mathlib.Nat.{zero-add, le-trans}
 use native.Mathlib.Omega.{arith}
 use lib.Dec.{eqb}
@@ -20,14 +20,15 @@ use Rattle.rules.specs.Sequences.{cardAfter, pictureAfter}
 use Rattle.demands.proofs.Demand1.{answered}
 use Rattle.demands.proofs.Demand2.{held-through, held-chosen}
 use Rattle.format.specs.Bytes.{word}
-use Rattle.format.specs.Traces.{largest, headerSize, writeAt, writesAt, goodHeader}
+use Rattle.format.specs.Traces.{largest, headerSize, entrySize, writeAt, writesAt, goodHeader}
 use Rattle.trace.specs.Run.{State, nothing, answer, apply, refuse}
 use Rattle.serial.specs.declared.Reader.{Reader}
-use Rattle.serial.specs.Serial.{newReader, Standing, stateOf, complete, stuck, sticks, waits, opens, draws, byte, reads, sound, chunk, chunks, joined, ended, finished}
+use Rattle.serial.specs.Serial.{Standing, stateOf, complete, stuck, sticks, waits, opens, draws, byte, reads, sound, chunk, chunks, joined, ended, finished}
 use Rattle.serial.specs.Arrival.{breaks, entryThere, entriesArrive, arrives}
 use Rattle.serial.proofs.Steps.{Step, stays, refuses, waiting, drawing, opening, step}
-use Rattle.serial.proofs.Kept.{by-answer, draws-size, Sound, to-sound, of-sound, new-sound, reads-sound}
+use Rattle.serial.proofs.Kept.{by-answer, draws-size, Sound, to-sound, reads-sound}
 use Rattle.serial.proofs.Joining.{chunk-stuck, chunk-unsound, chunk-bad, chunk-reads}
+use Rattle.serial.proofs.Turns.{there}
 use Rattle.serial.proofs.Arriving.{fresh, ended-stuck, arriving, arriving-bad}
 
 -- ---- After a number, later chunks and the end call return it, and change nothing.
@@ -163,9 +164,6 @@ totals rest s e =
     let h = chunks-sound rest s (to-sound _ e) in
     (omega (arith, h .within, h .few), omega (arith, h .within, h .few, h .total))
 
-pub new-can-be : sound newReader ≡ true
-new-can-be = of-sound newReader new-sound
-
 -- one that cannot be draws nothing
 pub cannot-be : (bs : List ℕ) (rest : List (List ℕ)) (s : Standing) → s .reader .number ≡ 0 → sound (s .reader) ≡ false
     → chunks (bs ∷ rest) s ≡ sticks 10 s
@@ -178,17 +176,18 @@ module _ (v : List ℕ) where
   -- from s, j entries from byte a on were applied, and t shows these
   record Went (a : ℕ) (s t : State) : Type 0 where
     j : ℕ
+    inside : 12 * j ≤ length v - a
     counts : t .applied ≡ s .applied + j
     shows : t .picture ≡ pictureAfter (writesAt v a j) (s .card) (s .picture)
     leaves : t .card ≡ cardAfter (writesAt v a j) (s .card) (s .picture)
 
   none-went : (a : ℕ) (s t : State) → t .applied ≡ s .applied → t .card ≡ s .card → t .picture ≡ s .picture → Went a s t
   unfolding writesAt pictureAfter cardAfter
-  none-went a s t n c p = record { j = 0; counts = omega (arith, n); shows = p; leaves = c }
+  none-went a s t n c p = record { j = 0; inside = omega arith; counts = omega (arith, n); shows = p; leaves = c }
 
-  one-more : (a : ℕ) (s t : State) → Went (a + 12) (apply s (writeAt v a)) t → Went a s t
+  one-more : (a : ℕ) (s t : State) → a + 12 ≤ length v → Went (a + 12) (apply s (writeAt v a)) t → Went a s t
   unfolding writesAt pictureAfter cardAfter apply
-  one-more a s t h = record { j = suc (h .j); counts = omega (arith, h .counts); shows = h .shows; leaves = h .leaves }
+  one-more a s t l h = record { j = suc (h .j); inside = omega (arith, l, h .inside); counts = omega (arith, h .counts); shows = h .shows; leaves = h .leaves }
 
   entries-went : (k a : ℕ) (s : State) → Went a s (entriesArrive v k a s)
   unfolding entriesArrive refuse
@@ -197,13 +196,13 @@ module _ (v : List ℕ) where
       go : (x : Bool) → Went a s (cond x s (breaks s))
       go true = none-went a s s refl refl refl
       go false = none-went a s (breaks s) refl refl refl
-  entries-went (suc k) a s = go (entryThere v a) (eqb (answer s (writeAt v a)) 0) (one-more a s _ (entries-went k (a + 12) (apply s (writeAt v a))))
+  entries-went (suc k) a s = go (entryThere v a) (eqb (answer s (writeAt v a)) 0) refl (entries-went k (a + 12) (apply s (writeAt v a)))
     where
-      go : (x y : Bool) → Went a s (entriesArrive v k (a + 12) (apply s (writeAt v a)))
+      go : (x y : Bool) → entryThere v a ≡ x → Went (a + 12) (apply s (writeAt v a)) (entriesArrive v k (a + 12) (apply s (writeAt v a)))
           → Went a s (cond x (cond y (entriesArrive v k (a + 12) (apply s (writeAt v a))) (refuse s (writeAt v a))) (breaks s))
-      go true true r = r
-      go true false r = none-went a s (refuse s (writeAt v a)) refl refl refl
-      go false y r = none-went a s (breaks s) refl refl refl
+      go true true e r = one-more a s _ (there v a e .long) r
+      go true false e r = none-went a s (refuse s (writeAt v a)) refl refl refl
+      go false y e r = none-went a s (breaks s) refl refl refl
 
 -- the end call changes no total
 ended-applied : (r : Reader) → ended r .applied ≡ r .applied
@@ -216,7 +215,7 @@ ended-applied r = go (isSet (r .number)) (sound r && complete r)
     go false false = refl
 
 -- The bytes v come to a new reader in one or more chunks. Picture and card are those of the entries applied, which stand in v from byte 16
--- on, whatever number came and whatever is wrong with the bytes after them
+-- on and end inside it, whatever number came and whatever is wrong with the bytes after them
 module _ (v : List ℕ) (c : Card) (p : List ℕ) (bs : List ℕ) (rest : List (List ℕ)) (cut : joined (bs ∷ rest) ≡ v) where
   abbrev last : Standing
   last = chunks (bs ∷ rest) (fresh c p)
@@ -238,6 +237,9 @@ module _ (v : List ℕ) (c : Card) (p : List ℕ) (bs : List ℕ) (rest : List (
 
   all : went .j ≡ last .reader .applied
   all = sym (zero-add (went .j)) ∙ sym (went .counts) ∙ ended-applied (last .reader)
+
+  pub drawn-inside : entrySize * last .reader .applied ≤ length v - headerSize
+  drawn-inside = omega (arith, went .inside, all)
 
   pub drawn-shows : last .picture ≡ pictureAfter drawn c p
   drawn-shows = went .shows ∙ ap (λ (n : ℕ). pictureAfter (writesAt v 16 n) c p) all

@@ -1,5 +1,5 @@
--- What every byte keeps: the length of the picture, and that the reader can be. Assumes nothing.
-use mathlib.Core.Path.{_≡_, refl, ap, sym, _∙_, subst}
+-- What every byte keeps: the length of the picture, the room for 16 bytes, and that the reader can be. Assumes nothing.
+use mathlib.Core.Path.{_≡_, refl, sym, _∙_, subst}
 use mathlib.Core.Bool.{Bool, true, false, cond}
 use mathlib.Core.List.{List, [], _∷_}
 use Prim.Native.Nat.{ℕ, _*_, _≤_, _<_}
@@ -100,9 +100,12 @@ pub of-sound : (r : Reader) → Sound r → sound r ≡ true
 unfolding sound
 of-sound r h = rw (lt-ltb _ _ (h .space), le-leb _ _ (h .within), le-leb _ _ (h .few), le-leb _ _ (h .total))
 
-pub new-sound : Sound newReader
+new-sound : Sound newReader
 unfolding newReader
 new-sound = record { space = omega arith; within = omega arith; few = omega arith; total = omega arith }
+
+pub new-can-be : sound newReader ≡ true
+new-can-be = of-sound newReader new-sound
 
 -- entries are left
 pub entries-left : (r : Reader) → isSet (r .opened) ≡ true → complete r ≡ false → r .applied ≡ r .announced → ⊥

@@ -1,4 +1,6 @@
--- The sentences of change request 2, one law each. Where a law names no reader, card or picture, it holds for all. Assumes nothing.
+-- Sentences of change request 2, one law each, but for three that stand where they are first needed: a byte past the total answers 10
+-- (`Steps.byte-past`), a forbidden VRAM answers 1 before any byte is read (`Joining.chunk-bad`), and an earlier number wins
+-- (`Joining.chunk-stuck`). Assumes nothing.
 use mathlib.Core.Path.{_≡_, refl, ap, _∙_}
 use mathlib.Core.Bool.{Bool, true, false, cond, _||_}
 use mathlib.Core.List.{List, []}
@@ -15,10 +17,10 @@ use Rattle.format.specs.Bytes.{word}
 use Rattle.format.specs.Traces.{writeAt, goodHeader}
 use Rattle.trace.specs.Run.{answer, refuse}
 use Rattle.serial.specs.declared.Reader.{Reader}
-use Rattle.serial.specs.Serial.{newReader, Standing, standing, stateOf, awaited, complete, badPad, sticks, opens, draws, byte, reads, sound, chunk, ended, finished}
+use Rattle.serial.specs.Serial.{newReader, Standing, standing, stateOf, awaited, complete, badPad, sticks, opens, draws, byte, reads, sound, chunk, finished}
 use Rattle.serial.proofs.Steps.{came, byte-past, byte-pad, byte-draws}
-use Rattle.serial.proofs.Kept.{one-refused, of-sound, new-sound}
-use Rattle.serial.proofs.Joining.{chunk-stuck, chunk-bad, chunk-reads}
+use Rattle.serial.proofs.Kept.{new-can-be, one-refused}
+use Rattle.serial.proofs.Joining.{chunk-reads}
 use Rattle.serial.proofs.Units.{partly, fills, header-opens, header-refused}
 use Rattle.serial.proofs.Arriving.{fresh, ended-owed, ended-whole}
 
@@ -26,7 +28,7 @@ use Rattle.serial.proofs.Arriving.{fresh, ended-owed, ended-whole}
 
 module _ (bs : List ℕ) (c : Card) (p : List ℕ) (good : badLength (length p) ≡ false) where
   read-at-once : chunk bs (fresh c p) ≡ reads bs (fresh c p)
-  read-at-once = chunk-reads bs (fresh c p) (of-sound newReader new-sound) good
+  read-at-once = chunk-reads bs (fresh c p) new-can-be good
 
   -- fewer than 16 bytes get 0, whatever they are
   pub not-before : length bs < 16 → chunk bs (fresh c p) .reader .number ≡ 0
@@ -51,37 +53,23 @@ module _ (bs : List ℕ) (c : Card) (p : List ℕ) (good : badLength (length p) 
           (header-opens bs (fresh c p) refl refl refl refl refl (omega (arith, h)) g ∙ ap (λ (u : List ℕ). reads u (opens (word bs 0) (fresh c p))) none-left)
       go false g = ap (λ (s : Standing). s .reader .number) (header-refused bs (fresh c p) refl refl refl refl refl (omega (arith, h)) g)
 
--- ---- One byte, where no number sticks yet. Nothing changes but the number; what is drawn stays.
+-- ---- One byte of an entry, where no number sticks yet. Nothing changes but the number; what is drawn stays.
 
-module _ (s : Standing) (b : ℕ) (free : s .reader .number ≡ 0) where
-  -- a byte past the total answers 10
-  pub past-the-total : complete (s .reader) ≡ true → byte s b ≡ sticks 10 s
-  past-the-total m = byte-past s b free m
+module _ (s : Standing) (b : ℕ) (free : s .reader .number ≡ 0) (more : complete (s .reader) ≡ false) (opened : isSet (s .reader .opened) ≡ true) where
+  -- a pad byte that is not zero answers 10 at once
+  pub pad-at-once : eqb (s .reader .filled) 2 || eqb (s .reader .filled) 3 ≡ true → (b ≡ 0 → ⊥) → byte s b ≡ sticks 10 s
+  unfolding badPad
+  pad-at-once f n = byte-pad s b free more (simp (opened, f, ne-eqb b 0 n))
 
-  module _ (more : complete (s .reader) ≡ false) (opened : isSet (s .reader .opened) ≡ true) where
-    -- a pad byte that is not zero answers 10 at once
-    pub pad-at-once : eqb (s .reader .filled) 2 || eqb (s .reader .filled) 3 ≡ true → (b ≡ 0 → ⊥) → byte s b ≡ sticks 10 s
-    unfolding badPad
-    pad-at-once f n = byte-pad s b free more (simp (opened, f, ne-eqb b 0 n))
-
-    -- the twelfth byte of an entry that is refused answers the entry's own number; card and picture stay
-    pub refused-entry : s .reader .filled ≡ 11 → (answer (stateOf s) (writeAt (came s b) 0) ≡ 0 → ⊥)
-        → stateOf (byte s b) ≡ refuse (stateOf s) (writeAt (came s b) 0)
-    unfolding badPad draws
-    refused-entry f n =
-        ap stateOf (byte-draws s b free more (simp (opened, f)) (omega (arith, f, twelve)) opened) ∙ one-refused (writeAt (came s b) 0) (stateOf s) n
-      where
-        twelve : awaited (s .reader) ≡ 12
-        twelve = rw opened
-
--- ---- A VRAM that number 1 forbids answers 1 before any byte is read, for an empty chunk too; an earlier number wins.
-
-pub forbidden-vram : (bs : List ℕ) (s : Standing) → s .reader .number ≡ 0 → sound (s .reader) ≡ true → badLength (length (s .picture)) ≡ true
-    → chunk bs s ≡ sticks 1 s
-forbidden-vram bs s free can-be bad = chunk-bad bs s free can-be bad
-
-pub earlier-number-wins : (bs : List ℕ) (s : Standing) → (s .reader .number ≡ 0 → ⊥) → chunk bs s ≡ s
-earlier-number-wins bs s n = chunk-stuck bs s n
+  -- the twelfth byte of an entry that is refused answers the entry's own number; card and picture stay
+  pub refused-entry : s .reader .filled ≡ 11 → (answer (stateOf s) (writeAt (came s b) 0) ≡ 0 → ⊥)
+      → stateOf (byte s b) ≡ refuse (stateOf s) (writeAt (came s b) 0)
+  unfolding badPad draws
+  refused-entry f n =
+      ap stateOf (byte-draws s b free more (simp (opened, f)) (omega (arith, f, twelve)) opened) ∙ one-refused (writeAt (came s b) 0) (stateOf s) n
+    where
+      twelve : awaited (s .reader) ≡ 12
+      twelve = rw opened
 
 -- ---- The end call: 10 where bytes are owed, of the header too; else nothing changes, and a byte after it is past the total.
 
@@ -93,7 +81,7 @@ end-with-nothing-owed s can-be m = ap (λ (r : Reader). standing r (s .card) (s 
 
 pub byte-after-the-end : (s : Standing) (b : ℕ) → s .reader .number ≡ 0 → sound (s .reader) ≡ true → complete (s .reader) ≡ true
     → byte (finished s) b ≡ sticks 10 s
-byte-after-the-end s b free can-be m = ap (λ (t : Standing). byte t b) (end-with-nothing-owed s can-be m) ∙ past-the-total s b free m
+byte-after-the-end s b free can-be m = ap (λ (t : Standing). byte t b) (end-with-nothing-owed s can-be m) ∙ byte-past s b free m
 
 pub nothing-came : (c : Card) (p : List ℕ) → finished (fresh c p) ≡ sticks 10 (fresh c p)
 unfolding newReader complete

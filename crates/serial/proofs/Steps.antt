@@ -3,7 +3,7 @@ use mathlib.Core.Path.{_≡_, refl, ap, _∙_}
 use mathlib.Core.Bool.{Bool, true, false, cond, not, _||_}
 use mathlib.Core.List.{List, [], _∷_}
 use Prim.Native.Nat.{ℕ, _+_, _≤_, _<_}
-use lib.Dec.{eqb, ltb}
+use lib.Dec.{ltb}
 use lib.ListN.{set}
 use borrow.Author.Tests.{eq-eqb, ne-eqb, eqb-true, eqb-false, lt-ltb, le-ltb, ltb-true, ltb-false, not-true, not-false}
 use Rattle.card.specs.Registers.{isSet}
@@ -68,7 +68,7 @@ module _ (s : Standing) (b : ℕ) where
               go false g = byte-bad-header o g
 
 -- a number that sticks
-pub byte-stuck : (s : Standing) (b : ℕ) → (s .reader .number ≡ 0 → ⊥) → byte s b ≡ s
+byte-stuck : (s : Standing) (b : ℕ) → (s .reader .number ≡ 0 → ⊥) → byte s b ≡ s
 unfolding byte
 byte-stuck s b n = rw (ne-eqb (s .reader .number) 0 n)
 

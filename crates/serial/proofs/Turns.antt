@@ -17,19 +17,30 @@ use Rattle.format.proofs.Tested.{both}
 use Rattle.format.proofs.Decoding.{writeAt-drop}
 use Rattle.serial.specs.declared.Reader.{Reader}
 use Rattle.serial.specs.Serial.{Standing, complete, draws, byte, reads, sound}
+use Rattle.serial.specs.Arrival.{entryThere}
 use Rattle.serial.specs.Ahead.{wholeAt}
 use Rattle.serial.proofs.Steps.{reads-stuck}
 use Rattle.serial.proofs.Kept.{to-sound, of-sound, byte-size, byte-sound, byte-room, draws-size, draws-sound, draws-room}
 use Rattle.serial.proofs.Units.{entry-drawn}
 
--- what the test of a whole entry says, where it holds
+-- what the tests of a whole entry say, where they hold
+pub record There (v : List ℕ) (a : ℕ) : Type 0 where
+  pub long : a + 12 ≤ length v
+  pub first : getD v (a + 2) 0 ≡ 0
+  pub second : getD v (a + 3) 0 ≡ 0
+
+pub there : (v : List ℕ) (a : ℕ) → entryThere v a ≡ true → There v a
+unfolding entryThere
+there v a e =
+    let (l, x) = both _ _ e in
+    let (p, q) = both _ _ x in
+    record { long = leb-true _ _ l; first = eqb-true _ _ p; second = eqb-true _ _ q }
+
 pub record Whole (r : Reader) (v : List ℕ) (a : ℕ) : Type 0 where
   pub opened : isSet (r .opened) ≡ true
   pub none : r .filled ≡ 0
   pub more : complete r ≡ false
-  pub long : a + 12 ≤ length v
-  pub first : getD v (a + 2) 0 ≡ 0
-  pub second : getD v (a + 3) 0 ≡ 0
+  pub stands : There v a
 
 pub whole : (r : Reader) (v : List ℕ) (a : ℕ) → wholeAt r v a ≡ true → Whole r v a
 unfolding wholeAt complete
@@ -37,15 +48,13 @@ whole r v a e =
     let (o, x) = both _ _ e in
     let (f, y) = both _ _ x in
     let (m, z) = both _ _ y in
-    let (l, u) = both _ _ z in
-    let (p, q) = both _ _ u in
-    record { opened = o; none = eqb-true _ _ f; more = simp (o, not-true (eqb (r .applied) (r .announced)) m); long = leb-true _ _ l; first = eqb-true _ _ p; second = eqb-true _ _ q }
+    record { opened = o; none = eqb-true _ _ f; more = simp (o, not-true (eqb (r .applied) (r .announced)) m); stands = there v a z }
 
 -- such an entry is drawn at once
 pub whole-read : (v : List ℕ) (a : ℕ) (s : Standing) → s .reader .number ≡ 0 → length (s .reader .waiting) ≡ 16 → Whole (s .reader) v a
     → reads (drop a v) s ≡ reads (drop (a + 12) v) (draws (writeAt v a) s)
 whole-read v a s z room w =
-    entry-drawn (drop a v) s z (w .more) (w .none) room (w .opened) (omega (arith, length-drop a v, w .long)) (pad 2 (w .first)) (pad 3 (w .second))
+    entry-drawn (drop a v) s z (w .more) (w .none) room (w .opened) (omega (arith, length-drop a v, w .stands .long)) (pad 2 (w .stands .first)) (pad 3 (w .stands .second))
     ∙ ap (λ (u : List ℕ). reads u (draws (writeAt (drop a v) 0) s)) (drop-drop 12 a v)
     ∙ ap (λ (x : Write). reads (drop (a + 12) v) (draws x s)) (writeAt-drop a v 0 ∙ ap (writeAt v) (add-zero a))
   where
@@ -98,7 +107,7 @@ module _ {v : List ℕ} {a : ℕ} {s₀ s : Standing} (g : Going v a s₀ s) whe
   pub turn-entry : s .reader .number ≡ 0 → Whole (s .reader) v a → {t : Standing} → t ≡ draws (writeAt v a) s → Going v (a + 12) s₀ t
   turn-entry z w {t} e =
       record {
-        within = w .long;
+        within = w .stands .long;
         can-be = ap (λ (x : Standing). sound (x .reader)) e ∙ of-sound _ (draws-sound (writeAt v a) s (w .opened) (w .more) (to-sound _ (g .can-be)));
         room = ap (λ (x : Standing). length (x .reader .waiting)) e ∙ draws-room (writeAt v a) s;
         size = ap (λ (x : Standing). length (x .picture)) e ∙ draws-size (writeAt v a) s ∙ g .size;

@@ -1,7 +1,7 @@
 -- A header and an entry, once all of their bytes have come. Assumes that the reader has room for 16 bytes, as the reader of the code has.
 use mathlib.Core.Path.{_≡_, refl, ap, sym, _∙_}
 use mathlib.Core.Bool.{Bool, true, false, _||_}
-use mathlib.Core.List.{List, _++_}
+use mathlib.Core.List.{List, [], _++_, append-nil}
 use Prim.Native.Nat.{ℕ, zero, suc, _+_, _≤_, _<_}
 use native.Mathlib.Omega.{arith}
 use lib.Dec.{eqb}
@@ -64,6 +64,13 @@ front-header u ws h =
       front-word 16 u ws 8 h (omega arith),
       front-word 16 u ws 12 h (omega arith),
     )
+
+-- so are the header's 16 bytes alone
+pub header-front : (u : List ℕ) → 16 ≤ length u → goodHeader (take 16 u) ≡ goodHeader u
+header-front u h = ap goodHeader (sym (append-nil (take 16 u))) ∙ front-header u [] h
+
+pub word-front : (u : List ℕ) (a : ℕ) → 16 ≤ length u → a + 4 ≤ 16 → word (take 16 u) a ≡ word u a
+word-front u a h l = ap (λ (z : List ℕ). word z a) (sym (append-nil (take 16 u))) ∙ front-word 16 u [] a h l
 
 -- s, with k bytes in ws waiting
 abbrev holding : ℕ → List ℕ → Standing → Standing

@@ -127,7 +127,7 @@ reads [] s = s
 reads (b ∷ bs) s = reads bs (byte s b)
 
 -- a reader that can be: fewer bytes wait than are awaited, and its totals are those of so many entries, of at most 2,048 pixels each.
--- One put together by hand may be none
+-- One put together by hand need not be such
 unfoldable pub sound : Reader → Bool
 sound r =
     ltb (r .filled) (awaited r)

@@ -103,13 +103,12 @@ fn read(r: Reader, bytes: &[u8], card: Card, vram: &mut [u8]) -> Fed
 }
 
 // One chunk, with the card and VRAM as the last one left them. `reader.number` is the answer.
-pub fn chunk(reader: Reader, bytes: &[u8], card: Card, vram: &mut [u8]) -> Fed
+pub fn chunk(reader: Reader, card: Card, bytes: &[u8], vram: &mut [u8]) -> Fed
     ensures { λ f. ⌜
         standing (f .reader) (f .card) (now (vram .exit)) ≡ chunkOf (now (bytes .entry)) (standing reader card (now (vram .entry))) ⌝ }
 {
     let mut next = reader;
-    let number = reader.number;
-    if number != 0 {
+    if reader.number != 0 {
         return Fed { reader, card };
     }
     if !sound(reader) {

@@ -40,7 +40,7 @@ draw-requires c κs =
     (c .before .before .before .before .if1 .left, c .before .before .before .before .before .before .before .loop .inv .can-be, w .opened, w .more)
 
 add-at : tie.Need-add-at Inv-loop μ-loop
-add-at c = omega (arith, is-whole (c .before .before .before .before .before .before .before) .long, c .before .before .before .before .before .before .before .before .before .before .before .before .before .before .before .before .before .good .1 .0)
+add-at c = omega (arith, is-whole (c .before .before .before .before .before .before .before) .stands .long, c .before .before .before .before .before .before .before .before .before .before .before .before .before .before .before .before .before .good .1 .0)
 
 loop-less : tie.Need-loop-less Inv-loop μ-loop
 loop-less c = omega (arith, c .before .before .before .before .before .before .before .before .before .before .before .loop-test .taken)
@@ -50,7 +50,7 @@ loop-again c =
     let l = c .before .before .before .before .before .before .before .before .before .before .before .before .loop in
     let w = is-whole (c .before .before .before .before .before .before .before) in
     turn-entry (l .inv) (c .before .before .before .before .before .before .before .before .before .if1 .left) w
-    (c .before .before .before .before .draw .ensures ∙ ap (λ (x : Write). draws x (standing (l .reader) (l .current) (l .vram))) (c .before .before .before .before .before .before .entry-at .ensures ∙ inside _ (l .at) (w .long)))
+    (c .before .before .before .before .draw .ensures ∙ ap (λ (x : Write). draws x (standing (l .reader) (l .current) (l .vram))) (c .before .before .before .before .before .before .entry-at .ensures ∙ inside _ (l .at) (w .stands .long)))
 
 shared-slice-read-byte : tie.Need-shared-slice-read-byte Inv-loop μ-loop
 shared-slice-read-byte c = search needs
