@@ -1,7 +1,7 @@
 -- `serial::bytes::byte` meets its contract: the cases in their order. Assumes nothing.
 use mathlib.Core.Path.{_≡_, ap, sym, _∙_}
 use mathlib.Core.Bool.{Bool, true, false, not, cond}
-use Prim.Native.Nat.{_<_}
+use Prim.Native.Nat.{_+_, _≤_, _<_}
 use native.Mathlib.Omega.{arith}
 use borrow.Author.Needs.{needs}
 use borrow.Author.Tests.{ne-eqb, eq-eqb}
@@ -9,7 +9,7 @@ use Rattle.rules.proofs.Tests.{said}
 use Rattle.card.specs.declared.Write.{Write}
 use Rattle.card.specs.Registers.{isSet}
 use Rattle.serial.specs.declared.Reader.{Reader}
-use Rattle.serial.specs.Serial.{standing, complete, badPad, waits, draws, sound}
+use Rattle.serial.specs.Serial.{standing, awaited, complete, badPad, waits, draws, sound}
 use Rattle.serial.proofs.Steps.{byte-past, byte-pad, byte-waits, byte-draws, byte-judges}
 use Rattle.serial.proofs.Kept.{to-sound}
 use Rattle.serial.proofs.bytes.byte.Statement.{statement}
@@ -33,12 +33,18 @@ returns c = sym (byte-past _ _ (c .before .before .before .pre .0) (said (c .bef
 bad-pad-requires : tie.Need-bad-pad-requires
 bad-pad-requires c κs = search needs
 
+-- where bytes are owed, and this one is no bad pad byte
+owed : (c : tie.Else1) → complete (c .before .before .before .args .r) ≡ false
+unfolding complete
+owed c = said (c .before .complete .ensures) (c .if1 .left)
+
 returns-2 : tie.Need-returns-2
-unfolding complete badPad
-returns-2 c =
-    sym
-    (byte-pad _ _ (c .before .before .before .before .before .pre .0) (said (c .before .before .before .complete .ensures) (c .before .before .if1 .left))
-    (said (c .before .bad-pad .ensures) (c .if2 .taken)))
+unfolding badPad
+returns-2 c = sym (byte-pad _ _ (c .before .before .before .before .before .pre .0) (owed (c .before .before)) (said (c .before .bad-pad .ensures) (c .if2 .taken)))
+
+clear : (c : tie.Else2) → badPad (c .before .before .before .before .before .args .r) (c .before .before .before .before .before .args .b) ≡ false
+unfolding badPad
+clear c = said (c .before .bad-pad .ensures) (c .if2 .left)
 
 cast-at : tie.Need-cast-at
 cast-at c = search needs
@@ -56,49 +62,50 @@ add-next : tie.Need-add-next
 add-next c = search needs
 
 returns-3 : tie.Need-returns-3
-unfolding complete badPad waits
+unfolding waits
 returns-3 c =
+    let pad-test = c .before .before .before .before .before .before in
     sym
-    (byte-waits _ _ (c .before .before .before .before .before .before .before .before .before .before .before .pre .0) (said (c .before .before .before .before .before .before .before .before .before .complete .ensures) (c .before .before .before .before .before .before .before .before .if1 .left))
-    (said (c .before .before .before .before .before .before .before .bad-pad .ensures) (c .before .before .before .before .before .before .if2 .left))
+    (byte-waits _ _ (pad-test .before .before .before .before .before .pre .0) (owed (pad-test .before .before)) (clear pad-test)
     (omega (arith, c .before .before .awaited .ensures, c .before .if3 .taken)))
+
+-- as many bytes have come as are awaited
+whole : (c : tie.Else3) → awaited (c .before .before .before .before .before .before .before .before .before .before .args .r) ≤ c .before .before .before .before .before .before .before .before .before .before .args .r .filled + 1
+whole c = omega (arith, c .before .awaited .ensures, c .if3 .left)
 
 opening-requires : tie.Need-opening-requires
 opening-requires c κs = search needs
 
 returns-4 : tie.Need-returns-4
-unfolding complete badPad
 returns-4 c =
-    let start = c .before .before .before .before .before .before .before .before .before .before .before .before .before in
+    let whole-test = c .before .before .before in
+    let pad-test = whole-test .before .before .before .before .before in
+    let start = pad-test .before .before .before .before .before in
     ap (λ (n : Reader). standing n (start .args .card) (start .args .vram .now)) (c .opening .ensures)
     ∙ sym
-    (byte-judges _ _ (start .pre .0) (said (c .before .before .before .before .before .before .before .before .before .before .before .complete .ensures) (c .before .before .before .before .before .before .before .before .before .before .if1 .left))
-    (said (c .before .before .before .before .before .before .before .before .before .bad-pad .ensures) (c .before .before .before .before .before .before .before .before .if2 .left))
-    (omega (arith, c .before .before .before .before .awaited .ensures, c .before .before .before .if3 .left))
-    (ap not (eq-eqb _ _ (c .before .if4 .taken))))
+    (byte-judges _ _ (start .pre .0) (owed (pad-test .before .before)) (clear pad-test) (whole whole-test) (ap not (eq-eqb _ _ (c .before .if4 .taken))))
 
 entry-of-requires : tie.Need-entry-of-requires
 entry-of-requires c κs = search needs
 
 draw-requires : tie.Need-draw-requires
-unfolding complete
 draw-requires c κs =
-    (c .before .before .before .before .before .before .before .before .before .before .before .before .before .before .pre .0, c .before .before .before .before .before .before .before .before .before .before .before .before .before .before .pre .1, ap not (ne-eqb _ _ (c .before .before .if4 .left)), said (c .before .before .before .before .before .before .before .before .before .before .before .before .complete .ensures) (c .before .before .before .before .before .before .before .before .before .before .before .if1 .left))
+    let owed-test = c .before .before .before .before .before .before .before .before .before .before .before in
+    let start = owed-test .before .before .before in
+    (start .pre .0, start .pre .1, ap not (ne-eqb _ _ (c .before .before .if4 .left)), owed owed-test)
 
 same-length : tie.Need-same-length
 same-length c = search needs
 
 returns-5 : tie.Need-returns-5
-unfolding complete badPad
 returns-5 c =
-    let start = c .before .before .before .before .before .before .before .before .before .before .before .before .before .before .before .before .before in
+    let whole-test = c .before .before .before .before .before .before .before in
+    let pad-test = whole-test .before .before .before .before .before in
+    let start = pad-test .before .before .before .before .before in
     c .before .before .draw .ensures
     ∙ ap (λ (w : Write). draws w (standing (start .args .r) (start .args .card) (start .args .vram .now))) (c .before .before .before .before .entry-of .ensures)
     ∙ sym
-    (byte-draws _ _ (start .pre .0) (said (c .before .before .before .before .before .before .before .before .before .before .before .before .before .before .before .complete .ensures) (c .before .before .before .before .before .before .before .before .before .before .before .before .before .before .if1 .left))
-    (said (c .before .before .before .before .before .before .before .before .before .before .before .before .before .bad-pad .ensures) (c .before .before .before .before .before .before .before .before .before .before .before .before .if2 .left))
-    (omega (arith, c .before .before .before .before .before .before .before .before .awaited .ensures, c .before .before .before .before .before .before .before .if3 .left))
-    (ap not (ne-eqb _ _ (c .before .before .before .before .before .if4 .left))))
+    (byte-draws _ _ (start .pre .0) (owed (pad-test .before .before)) (clear pad-test) (whole whole-test) (ap not (ne-eqb _ _ (c .before .before .before .before .before .if4 .left))))
 
 pub byte-spec : {M : Type 1} → statement M
 byte-spec =
