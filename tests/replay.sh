@@ -50,7 +50,8 @@ arrives_as() {
     passed=$((passed + 1))
 }
 
-# A trace that arrives broken, as the command writes it: status 1, and 10 with these entries, pixels and length of VRAM.
+# A trace that arrives broken, as the command writes it: status 1, and 10 with these entries, pixels and length of VRAM. It leaves a
+# picture where this length is not 0.
 breaks_as() {
     what=$1 entries=$2 pixels=$3 bytes=$4 width=$5
     shift 5
@@ -61,7 +62,11 @@ breaks_as() {
     }
     printf 'number 10\nentries %s\npixels %s\nvram %s\n' "$entries" "$pixels" "$bytes" | cmp -s - "$room/out" ||
         wrong "$what: it said $(cat "$room/out")"
-    [ "$bytes" -gt 0 ] || [ ! -e "$room/broken.pgm" ] || wrong "$what: it left a picture"
+    if [ "$bytes" -gt 0 ]; then
+        [ -e "$room/broken.pgm" ] || wrong "$what: it left no picture"
+    else
+        [ ! -e "$room/broken.pgm" ] || wrong "$what: it left a picture"
+    fi
     passed=$((passed + 1))
 }
 
@@ -96,6 +101,12 @@ in_pieces() {
 # A file byte by byte.
 byte_by_byte() {
     dd if="$1" bs=1 2>/dev/null
+}
+
+# A whole file, and the sender stays for a moment after its last byte.
+stays_after() {
+    cat "$1"
+    sleep 0.3
 }
 
 # An error: status 2, a line on standard error, and no picture.
@@ -140,6 +151,7 @@ trace=$tests/cases/l8-000.trace
 status "$trace" "$room/l8-000.pgm" 8
 arrives_as l8-000 8 in_pieces "$trace"
 arrives_as l8-000 8 byte_by_byte "$trace"
+arrives_as l8-000 8 stays_after "$trace"
 
 # one that breaks off, goes on past its total, or is none: what was drawn so far is left. 40 entries and 5 bytes arrive.
 first_entries 40 "$trace" >"$room/first.trace"
