@@ -6,6 +6,8 @@ use crate::model::{self, refusal, Write};
 
 /// Of the refused writes that come up one in so many is taken into a trace, so that runs are long.
 pub const FEW: u64 = 60;
+/// So rare a refused write does not come up: none is taken.
+pub const NEVER: u64 = u64::MAX;
 
 /// Writes for a trace from reset, made on a model card as it goes; one in `rare` refused ones is taken, all on a VRAM that 1
 /// forbids.

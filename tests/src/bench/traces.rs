@@ -28,8 +28,7 @@ const WAYS: [(&str, Way); 3] = [
 /// The rows, with what each measures. Spans differ from entry to entry, so no pixels are shown.
 pub fn rows() -> impl Iterator<Item = (Row, Way)> {
     let mut maker = Maker::new(Random::of_case(1, 2));
-    // None is refused: so rare a one does not come up.
-    let writes = damage::writes(&mut maker, VRAM, TURNS, u64::MAX);
+    let writes = damage::writes(&mut maker, VRAM, TURNS, damage::NEVER);
     WAYS.into_iter().map(move |(name, way)| {
         let row = Row {
             name: String::from(name),

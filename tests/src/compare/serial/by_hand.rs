@@ -8,7 +8,7 @@ use crate::damage;
 use crate::engine::reader::Reader;
 use crate::generate::Maker;
 use crate::model::refusal::bad_length;
-use crate::model::trace::{self, ENTRY, HEADER};
+use crate::model::trace::{self, ENTRY, HEADER, MOST_ENTRIES};
 use crate::model::{serial, Card};
 
 /// The number and totals, the card and the picture that a chunk must leave. No totals where a header is unfinished.
@@ -36,15 +36,16 @@ pub fn case(maker: &mut Maker, met: &mut Met) -> Outcome {
     } else {
         length
     };
-    met.by_hand(&reader, faults(&reader));
-    ended(&reader)
+    let left = ended(&reader)
         .and_then(|()| fed(maker, &reader, &bytes[..upto], from, lent))
         .map_err(|why| {
             format!(
                 "{reader:X?}, {:02X?}, VRAM {lent}: {why}",
                 &bytes[from..upto]
             )
-        })
+        })?;
+    met.by_hand(&reader, faults(&reader), &left);
+    Ok(())
 }
 
 /// A mark: 0, 1 or any word.
@@ -64,10 +65,10 @@ fn near(maker: &mut Maker, limit: u32) -> u32 {
     ])
 }
 
-/// The first of these bytes wait in it, as far as there are so many.
+/// The first of these bytes wait in it, as far as there are so many; pad bytes of an entry among them are now and then not zero.
 fn reader(maker: &mut Maker, opened: u32, bytes: &[u8]) -> Reader {
     let awaited = if opened == 0 { HEADER } else { ENTRY };
-    let announced = near(maker, 4096);
+    let announced = near(maker, MOST_ENTRIES as u32);
     let applied = near(maker, announced);
     let pixels = near(maker, applied.wrapping_mul(2048));
     let filled = near(maker, (awaited - 1).min(bytes.len()) as u32);
@@ -75,6 +76,11 @@ fn reader(maker: &mut Maker, opened: u32, bytes: &[u8]) -> Reader {
     waiting.copy_from_slice(&maker.random.bytes(16));
     let front = bytes.len().min(filled as usize).min(16);
     waiting[..front].copy_from_slice(&bytes[..front]);
+    for pad in [2, 3] {
+        if opened != 0 && pad < front && maker.random.one_in(3) {
+            waiting[pad] = maker.random.byte();
+        }
+    }
     let any = maker.random.word().max(1);
     let number = maker.random.pick(&[0, 0, 0, 0, 0, 0, 1, 8, 10, any]);
     Reader {
@@ -94,7 +100,7 @@ fn faults(reader: &Reader) -> [bool; 4] {
     [
         reader.filled as usize >= awaited,
         reader.applied > reader.announced,
-        reader.announced > 4096,
+        u64::from(reader.announced) > MOST_ENTRIES,
         u64::from(reader.pixels) > 2048 * u64::from(reader.applied),
     ]
 }
@@ -118,8 +124,14 @@ fn ended(reader: &Reader) -> Outcome {
     same("end call", &Reader { number, ..*reader }, &given)
 }
 
-/// A chunk of the bytes from a place on, those before it wait in the reader.
-fn fed(maker: &mut Maker, reader: &Reader, bytes: &[u8], from: usize, lent: usize) -> Outcome {
+/// A chunk of the bytes from a place on, those before it wait in the reader. Gives the reader that it leaves.
+fn fed(
+    maker: &mut Maker,
+    reader: &Reader,
+    bytes: &[u8],
+    from: usize,
+    lent: usize,
+) -> Result<Reader, String> {
     let start = start(maker, lent)?;
     let mut given = *reader;
     let mut card = start.card.clone();
@@ -129,7 +141,8 @@ fn fed(maker: &mut Maker, reader: &Reader, bytes: &[u8], from: usize, lent: usiz
     if let Some(number) = at_sight(reader).or(forbidden) {
         same("reader", &Reader { number, ..*reader }, &given)?;
         same("card", &start.card, &card)?;
-        return same_bytes("VRAM", &start.picture, &picture);
+        same_bytes("VRAM", &start.picture, &picture)?;
+        return Ok(given);
     }
     let expected = if reader.opened == 0 {
         opening(bytes, from, start.card, start.picture)
@@ -140,7 +153,8 @@ fn fed(maker: &mut Maker, reader: &Reader, bytes: &[u8], from: usize, lent: usiz
     let totals = expected.totals.unwrap_or((reader.applied, reader.pixels));
     same("totals", &totals, &(given.applied, given.pixels))?;
     same("card", &expected.card, &card)?;
-    same_bytes("VRAM", &expected.picture, &picture)
+    same_bytes("VRAM", &expected.picture, &picture)?;
+    Ok(given)
 }
 
 /// A header that is not whole yet: as a new reader that heard the same bytes. Its totals count once the header is good.
@@ -157,7 +171,8 @@ fn opening(bytes: &[u8], from: usize, mut card: Card, mut picture: Vec<u8>) -> E
     }
 }
 
-/// Entries: a run of those that are whole and announced, and 10 for a byte past them.
+/// Entries: a run of those that are whole and announced, and 10 for a byte past them. "A pad byte that already waits is not judged
+/// again": the bytes have zeros there, whatever waits in the reader.
 fn going_on(
     reader: &Reader,
     bytes: &[u8],

@@ -2,7 +2,7 @@
 
 use super::met::{Call, Met};
 use crate::compare::{same, same_bytes, Outcome, Pair};
-use crate::engine;
+use crate::engine::reader::Reader;
 use crate::model::{serial, trace, Card};
 use std::mem;
 
@@ -31,13 +31,26 @@ impl Standing {
     }
 }
 
+/// What a line leaves: how it stands, and the engine's reader with the bytes that wait in it.
+pub struct Sent {
+    pub standing: Standing,
+    reader: Reader,
+}
+
+impl Sent {
+    pub fn same(&self, what: &str, other: &Sent) -> Outcome {
+        self.standing.same(what, &other.standing)?;
+        same(&format!("reader {what}"), &self.reader, &other.reader)
+    }
+}
+
 impl Start {
     pub fn line<'a>(&self, met: &'a mut Met) -> Line<'a> {
         met.lines += 1;
         Line {
             met,
             ours: serial::Reader::new(),
-            theirs: engine::reader::Reader::new(),
+            theirs: Reader::new(),
             cards: (self.card.clone(), self.card.clone()),
             vram: Pair::new(self.picture.clone()),
             sent: Vec::new(),
@@ -47,27 +60,28 @@ impl Start {
     }
 
     /// All chunks, and the end call.
-    pub fn sent(&self, met: &mut Met, chunks: &[&[u8]]) -> Result<Standing, String> {
+    pub fn sent(&self, met: &mut Met, chunks: &[&[u8]]) -> Result<Sent, String> {
         let mut line = self.line(met);
         for chunk in chunks {
             line.chunk(chunk)?;
         }
         line.end()?;
-        Ok(line.standing())
+        Ok(line.left())
     }
 
     /// The engine alone, with all bytes in one chunk.
-    pub fn at_once(&self, bytes: &[u8]) -> Standing {
-        let mut reader = engine::reader::Reader::new();
+    pub fn at_once(&self, bytes: &[u8]) -> Sent {
+        let mut reader = Reader::new();
         let mut card = self.card.clone();
         let mut picture = self.picture.clone();
         reader.chunk(bytes, &mut card, &mut picture);
         let number = reader.end();
-        Standing {
+        let standing = Standing {
             numbers: (number, reader.applied, reader.pixels),
             card,
             picture,
-        }
+        };
+        Sent { standing, reader }
     }
 
     /// The model's one whole run, where check accepts the bytes.
@@ -89,7 +103,7 @@ impl Start {
 pub struct Line<'a> {
     met: &'a mut Met,
     ours: serial::Reader,
-    theirs: engine::reader::Reader,
+    theirs: Reader,
     cards: (Card, Card),
     vram: Pair,
     sent: Vec<u8>,
@@ -149,11 +163,15 @@ impl Line<'_> {
         Ok(())
     }
 
-    fn standing(self) -> Standing {
-        Standing {
+    fn left(self) -> Sent {
+        let standing = Standing {
             numbers: (self.number, self.ours.entries(), self.ours.pixels()),
             card: self.cards.0,
             picture: self.vram.model,
+        };
+        Sent {
+            standing,
+            reader: self.theirs,
         }
     }
 }

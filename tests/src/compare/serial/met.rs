@@ -1,7 +1,7 @@
 //! Counts what the serial reader met: numbers, places of cuts, and situations that Ask 2 is about.
 
 use crate::engine::reader::Reader;
-use crate::model::trace::{self, ENTRY, HEADER};
+use crate::model::trace::{self, ENTRY, HEADER, MOST_ENTRIES};
 
 /// Situations of a call on a line.
 const SITUATIONS: [&str; 16] = [
@@ -24,7 +24,7 @@ const SITUATIONS: [&str; 16] = [
 ];
 
 /// Readers put together by hand.
-const BY_HAND: [&str; 7] = [
+const BY_HAND: [&str; 8] = [
     "number that sticks, by hand",
     "10 for bytes that wait alone",
     "10 for entries applied alone",
@@ -32,6 +32,7 @@ const BY_HAND: [&str; 7] = [
     "10 for pixels alone",
     "header read on, by hand",
     "entries read on, by hand",
+    "nonzero pad byte waits and its entry is drawn, by hand",
 ];
 
 /// One call on a line. `sent` are the bytes of all chunks so far, of which `new` are this chunk's.
@@ -139,7 +140,7 @@ impl Met {
             end && ended && number == 0,
             empty && ended && number == 0,
             ended && wrong.is_some(),
-            end && number == 0 && entries == 4096,
+            end && number == 0 && u64::from(entries) == MOST_ENTRIES,
         ];
         add(&mut self.situations, &met);
         if !end && new > 0 && number == 0 {
@@ -155,10 +156,12 @@ impl Met {
         }
     }
 
-    /// A chunk for a reader put together by hand; `faults` say why it cannot be.
-    pub fn by_hand(&mut self, reader: &Reader, faults: [bool; 4]) {
+    /// A chunk for a reader put together by hand, and the reader that it left; `faults` say why it cannot be.
+    pub fn by_hand(&mut self, reader: &Reader, faults: [bool; 4], left: &Reader) {
         let alone = |i| reader.number == 0 && (0..4).all(|k| faults[k] == (k == i));
         let read = reader.number == 0 && faults == [false; 4];
+        let entries = read && reader.opened != 0;
+        let pad = (2..4).any(|i| i < reader.filled as usize && reader.waiting[i] != 0);
         let met = [
             reader.number != 0,
             alone(0),
@@ -166,7 +169,8 @@ impl Met {
             alone(2),
             alone(3),
             read && reader.opened == 0,
-            read && reader.opened != 0,
+            entries,
+            entries && pad && left.applied > reader.applied,
         ];
         add(&mut self.by_hand, &met);
     }

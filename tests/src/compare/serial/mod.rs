@@ -12,15 +12,12 @@ use super::{picture, Outcome};
 use crate::damage;
 use crate::generate::Maker;
 use crate::listed::LARGEST_VRAM;
-use crate::model;
-use line::{Standing, Start};
+use crate::model::{self, trace::MOST_ENTRIES};
+use line::{Sent, Start};
 
 /// The first case has a trace of the largest count, all of it accepted; the next ones have short traces, cut everywhere.
 const LONG: u64 = 0;
 const LAST_SHORT: u64 = 40;
-const MOST_ENTRIES: usize = 4096;
-/// How rare refused entries are in the long trace: there are none among so few.
-const NEVER: u64 = u64::MAX;
 const READERS_BY_HAND: usize = 40;
 
 pub fn case(maker: &mut Maker, met: &mut Met, case: u64) -> Outcome {
@@ -33,15 +30,15 @@ pub fn case(maker: &mut Maker, met: &mut Met, case: u64) -> Outcome {
 
 fn long(maker: &mut Maker, met: &mut Met) -> Outcome {
     let length = 4096;
-    let writes = damage::writes(maker, length, MOST_ENTRIES, NEVER);
+    let writes = damage::writes(maker, length, MOST_ENTRIES as usize, damage::NEVER);
     let bytes = damage::whole(length, &writes);
     let start = Start {
         card: model::reset(0),
         picture: picture(maker, length),
     };
     let chunks = cut(maker, &bytes, 5_000);
-    let standing = start.sent(met, &chunks)?;
-    beside(met, &start, &bytes, &standing)
+    let sent = start.sent(met, &chunks)?;
+    beside(met, &start, &bytes, &sent)
 }
 
 /// A trace whole and damaged, in chunks; and readers put together by hand.
@@ -72,8 +69,8 @@ fn in_chunks(maker: &mut Maker, met: &mut Met, bytes: &[u8], length: usize) -> O
     let start = start(maker, lent)?;
     let most = maker.random.pick(&[2, 5, 13, 30, 400]);
     let chunks = cut(maker, bytes, most);
-    let standing = start.sent(met, &chunks)?;
-    beside(met, &start, bytes, &standing)?;
+    let sent = start.sent(met, &chunks)?;
+    beside(met, &start, bytes, &sent)?;
     disturbed(maker, met, &start, &chunks)
 }
 
@@ -98,11 +95,12 @@ fn cut<'a>(maker: &mut Maker, bytes: &'a [u8], most: u64) -> Vec<&'a [u8]> {
 }
 
 /// "From a new reader, in one or many chunks, ... the same, and for a trace that check 10 passes they are those of one whole run."
-fn beside(met: &mut Met, start: &Start, bytes: &[u8], standing: &Standing) -> Outcome {
-    standing.same("in one chunk", &start.at_once(bytes))?;
+/// The reader too is the same, cut as they may be.
+fn beside(met: &mut Met, start: &Start, bytes: &[u8], sent: &Sent) -> Outcome {
+    sent.same("in one chunk", &start.at_once(bytes))?;
     if let Some(run) = start.run(bytes) {
         met.runs += 1;
-        run.same("of one whole run", standing)?;
+        run.same("of one whole run", &sent.standing)?;
     }
     Ok(())
 }
