@@ -1,18 +1,18 @@
 // What a C program needs: the card stands in its memory, and each entry changes it there; the entries of the serial reader take reader and card by
-// value instead, and what they mean stands in the crate `serial`.
+// value instead, and what they mean stands in the crate `line`.
 // include/zevkholtai.h declares these functions. What the entries on a card mean stands in the crates `card` (reset) and `answers`, what those on a
 // buffer mean in specs/Buffers.antt.
 ghost use mathlib.Core.Path.{_≡_};
 ghost use Rattle.card.specs.Reset.{resetCard};
 ghost use Rattle.answers.specs.Answers.{writeOf, Wrote, Replayed};
-ghost use Rattle.serial.specs.Serial.{newReader, standing, chunk, ended};
+ghost use Rattle.line.specs.Serial.{newReader, standing, chunk, ended};
 ghost use Rattle.host.specs.Buffers.{Began, Grew, Looked};
 use answers::Answer;
 use answers::Ran;
 use card::Card;
 use card::Write;
-use serial::Fed;
-use serial::Reader;
+use line::Fed;
+use line::Reader;
 
 // What starting, appending and checking answer: the number, and a length in bytes.
 #[repr(C)]

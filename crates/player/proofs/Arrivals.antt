@@ -16,12 +16,12 @@ use Rattle.format.specs.Traces.{goodHeader, isTrace, entryCount, checkNumber, c
 use Rattle.format.proofs.Inside.{word-inside}
 use Rattle.format.proofs.Tested.{headed, formed, traced}
 use Rattle.trace.specs.Run.{State}
-use Rattle.serial.specs.Serial.{newReader, Standing, standing, stateOf, chunk, chunks, joined, finished}
-use Rattle.serial.specs.declared.Reader.{Reader}
-use Rattle.serial.proofs.Joining.{two-chunks}
-use Rattle.serial.proofs.Units.{header-front, word-front}
-use Rattle.serial.proofs.Demands.{held-planes}
-use Rattle.serial.proofs.Accepted.{one-whole-run}
+use Rattle.line.specs.Serial.{newReader, Standing, standing, stateOf, chunk, chunks, joined, finished}
+use Rattle.line.specs.declared.Reader.{Reader}
+use Rattle.line.proofs.Joining.{two-chunks}
+use Rattle.line.proofs.Units.{header-front, word-front}
+use Rattle.line.proofs.Demands.{held-planes}
+use Rattle.line.proofs.Accepted.{one-whole-run}
 use Rattle.player.specs.declared.Played.{Played}
 use Rattle.player.specs.Playing.{whole, played, pictured}
 use Rattle.player.specs.Arriving.{lengthOf, fed, fedAll, before, closed}

@@ -6,8 +6,8 @@ use lib.Dec.{leb}
 use lib.ListN.{length, take, drop}
 use Rattle.format.specs.Bytes.{word}
 use Rattle.format.specs.Traces.{goodHeader}
-use Rattle.serial.specs.Serial.{Standing, standing, chunk, ended}
-use Rattle.serial.specs.declared.Reader.{Reader}
+use Rattle.line.specs.Serial.{Standing, standing, chunk, ended}
+use Rattle.line.specs.declared.Reader.{Reader}
 use Rattle.player.specs.declared.Played.{Played}
 
 -- the VRAM length that a header says; 0 where the bytes are none

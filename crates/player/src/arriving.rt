@@ -1,11 +1,11 @@
 // A trace that arrives in chunks, on the front of a VRAM: its length from the header, each chunk, and what is answered when the input ends.
 ghost use mathlib.Core.Path.{_≡_};
-ghost use Rattle.serial.specs.Serial.{standing};
+ghost use Rattle.line.specs.Serial.{standing};
 ghost use Rattle.player.specs.Arriving.{lengthOf, fed, closed};
 use crate::Played;
 use card::Card;
-use serial::Fed;
-use serial::Reader;
+use line::Fed;
+use line::Reader;
 
 // The VRAM length that the header says; 0 where it is none, or not whole.
 pub fn length_of(header: &[u8]) -> usize

@@ -5,8 +5,8 @@ use bounds::LARGEST_VRAM;
 use card::Card;
 use format::ENTRY;
 use format::LARGEST;
+use line::Reader;
 use player::Played;
-use serial::Reader;
 
 // One read: how many bytes came, in the front of the buffer. None at the end of the input; a read that fails ends it too, and says so.
 fn some(input: i32, buffer: &mut [u8]) -> usize

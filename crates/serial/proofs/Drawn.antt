@@ -8,9 +8,9 @@ use Rattle.engine.specs.declared.Answer.{Answer}
 use Rattle.engine.specs.Contract.{Written}
 use Rattle.rules.proofs.Outcome.{picture-refused}
 use Rattle.trace.specs.Run.{State, answer, apply, refuse}
-use Rattle.serial.specs.declared.Reader.{Reader}
-use Rattle.serial.specs.Serial.{Standing, standing, stateOf, counted, draws}
-use Rattle.serial.proofs.Kept.{one-applied, one-refused}
+use Rattle.line.specs.declared.Reader.{Reader}
+use Rattle.line.specs.Serial.{Standing, standing, stateOf, counted, draws}
+use Rattle.line.proofs.Kept.{one-applied, one-refused}
 
 module _ (r : Reader) (c : Card) (w : Write) (v : List ℕ) {a : Answer} {v′ : List ℕ} (done : Written c w v a v′) where
   abbrev before : State

@@ -1,13 +1,2 @@
--- The laws of the crate `serial`, and the theorems about the serial reader.
-pub mod Steps
-pub mod Kept
+-- What the engine's answer to an entry means for the reader.
 pub mod Drawn
-pub mod Joining
-pub mod Units
-pub mod Answers
-pub mod Turns
-pub mod Arriving
-pub mod Rules
-pub mod Accepted
-pub mod Demands
-pub mod Samples

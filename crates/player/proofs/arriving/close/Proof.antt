@@ -1,7 +1,7 @@
 -- `player::close` meets its contract. Assumes nothing.
 use mathlib.Core.Path.{ap}
 use Prim.Native.Nat.{ℕ}
-use Rattle.serial.specs.declared.Reader.{Reader}
+use Rattle.line.specs.declared.Reader.{Reader}
 use Rattle.player.specs.declared.Played.{Played}
 use Rattle.player.specs.Arriving.{closed}
 use borrow.Author.Needs.{needs}

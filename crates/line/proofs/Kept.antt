@@ -1,0 +1,146 @@
+-- What every byte keeps: the length of the picture, the room for 16 bytes, and that the reader can be. Assumes nothing.
+use mathlib.Core.Path.{_≡_, refl, sym, _∙_, subst}
+use mathlib.Core.Bool.{Bool, true, false, cond}
+use mathlib.Core.List.{List, [], _∷_}
+use Prim.Native.Nat.{ℕ, _*_, _≤_, _<_}
+use native.Mathlib.Omega.{arith}
+use lib.Dec.{eqb}
+use lib.ListN.{length, length-set}
+use borrow.Author.Tests.{eq-eqb, ne-eqb, eqb-true, eqb-false, lt-ltb, ltb-true, le-leb, leb-true}
+use Rattle.card.specs.Registers.{isSet}
+use Rattle.card.specs.declared.Write.{Write}
+use Rattle.demands.proofs.Counting.{count-bound}
+use Rattle.demands.proofs.Demand1.{same-length}
+use Rattle.format.specs.Traces.{largest}
+use Rattle.format.proofs.Tested.{both, headed}
+use Rattle.trace.specs.Run.{State, answer, apply, refuse, ran}
+use Rattle.line.specs.declared.Reader.{Reader}
+use Rattle.line.specs.Serial.{newReader, Standing, stateOf, awaited, complete, waits, opens, draws, byte, reads, sound}
+use Rattle.line.proofs.Steps.{Step, stays, refuses, waiting, drawing, opening, step}
+
+-- one entry of a run: applied where its number is 0, else refused
+pub one-applied : (w : Write) (t : State) → answer t w ≡ 0 → ran (w ∷ []) 1 t ≡ apply t w
+unfolding ran
+one-applied w t e = rw (eq-eqb _ _ e)
+
+pub one-refused : (w : Write) (t : State) → (answer t w ≡ 0 → ⊥) → ran (w ∷ []) 1 t ≡ refuse t w
+unfolding ran
+one-refused w t n = rw (ne-eqb _ _ n)
+
+-- an entry drawn, whichever it was
+pub by-answer : (p : State → Type 0) (w : Write) (t : State) → (answer t w ≡ 0 → p (apply t w)) → ((answer t w ≡ 0 → ⊥) → p (refuse t w)) → p (ran (w ∷ []) 1 t)
+by-answer p w t f g = go (eqb (answer t w) 0) refl
+  where
+    go : (x : Bool) → eqb (answer t w) 0 ≡ x → p (ran (w ∷ []) 1 t)
+    go true e = let z = eqb-true _ _ e in subst p (sym (one-applied w t z)) (f z)
+    go false e = let z = eqb-false _ _ e in subst p (sym (one-refused w t z)) (g z)
+
+-- ---- The length of the picture.
+
+abbrev size : Standing → ℕ
+size s = length (s .picture)
+
+pub draws-size : (w : Write) (s : Standing) → size (draws w s) ≡ size s
+unfolding draws apply refuse
+draws-size w s = by-answer (λ t. length (t .picture) ≡ size s) w (stateOf s) (λ _. same-length (s .card) w (s .picture)) (λ _. refl)
+
+size-step : {s t : Standing} {b : ℕ} → Step s b t → size t ≡ size s
+unfolding waits opens
+size-step (stays n) = refl
+size-step refuses = refl
+size-step (waiting h) = refl
+size-step {s = s} (drawing f o m h) = draws-size _ s
+size-step (opening h g) = refl
+
+pub byte-size : (s : Standing) (b : ℕ) → size (byte s b) ≡ size s
+byte-size s b = size-step (step s b)
+
+pub reads-size : (bs : List ℕ) (s : Standing) → size (reads bs s) ≡ size s
+unfolding reads
+reads-size [] s = refl
+reads-size (b ∷ bs) s = reads-size bs (byte s b) ∙ byte-size s b
+
+-- ---- The room for 16 bytes.
+
+abbrev room : Standing → ℕ
+room s = length (s .reader .waiting)
+
+pub draws-room : (w : Write) (s : Standing) → room (draws w s) ≡ 16
+unfolding draws
+draws-room w s = refl
+
+room-step : {s t : Standing} {b : ℕ} → room s ≡ 16 → Step s b t → room t ≡ 16
+unfolding waits opens
+room-step h (stays n) = h
+room-step h refuses = h
+room-step {s = s} {b = b} h (waiting l) = length-set (s .reader .waiting) (s .reader .filled) b ∙ h
+room-step {s = s} h (drawing f o m l) = draws-room _ s
+room-step h (opening l g) = refl
+
+pub byte-room : (s : Standing) (b : ℕ) → room s ≡ 16 → room (byte s b) ≡ 16
+byte-room s b h = room-step h (step s b)
+
+-- ---- A reader that can be.
+
+pub record Sound (r : Reader) : Type 0 where
+  pub space : r .filled < awaited r
+  pub within : r .applied ≤ r .announced
+  pub few : r .announced ≤ largest
+  pub total : r .pixels ≤ 2048 * r .applied
+
+pub to-sound : (r : Reader) → sound r ≡ true → Sound r
+unfolding sound
+to-sound r e =
+    let (a, x) = both _ _ e in
+    let (b, y) = both _ _ x in
+    let (c, d) = both _ _ y in
+    record { space = ltb-true _ _ a; within = leb-true _ _ b; few = leb-true _ _ c; total = leb-true _ _ d }
+
+pub of-sound : (r : Reader) → Sound r → sound r ≡ true
+unfolding sound
+of-sound r h = rw (lt-ltb _ _ (h .space), le-leb _ _ (h .within), le-leb _ _ (h .few), le-leb _ _ (h .total))
+
+new-sound : Sound newReader
+unfolding newReader
+new-sound = record { space = omega arith; within = omega arith; few = omega arith; total = omega arith }
+
+pub new-can-be : sound newReader ≡ true
+new-can-be = of-sound newReader new-sound
+
+-- entries are left
+pub entries-left : (r : Reader) → isSet (r .opened) ≡ true → complete r ≡ false → r .applied ≡ r .announced → ⊥
+unfolding complete
+entries-left r o e = eqb-false _ _ (sym (rw o) ∙ e)
+
+pub draws-sound : (w : Write) (s : Standing) → isSet (s .reader .opened) ≡ true → complete (s .reader) ≡ false
+    → Sound (s .reader) → Sound (draws w s .reader)
+unfolding draws apply refuse
+draws-sound w s o m h =
+    record {
+      space = awaits (isSet (s .reader .opened));
+      within = by-answer (λ t. t .applied ≤ s .reader .announced) w (stateOf s) (λ _. omega (arith, h .within, entries-left (s .reader) o m)) (λ _. h .within);
+      few = h .few;
+      total = by-answer (λ t. t .pixels ≤ 2048 * t .applied) w (stateOf s)
+          (λ _. omega (arith, h .total, count-bound (s .card) w (length (s .picture))))
+          (λ _. h .total);
+    }
+  where
+    awaits : (x : Bool) → 0 < cond x 12 16
+    awaits true = omega arith
+    awaits false = omega arith
+
+sound-step : {s t : Standing} {b : ℕ} → Sound (s .reader) → Step s b t → Sound (t .reader)
+unfolding waits opens
+sound-step h (stays n) = h
+sound-step h refuses = record { space = h .space; within = h .within; few = h .few; total = h .total }
+sound-step h (waiting l) = record { space = l; within = h .within; few = h .few; total = h .total }
+sound-step {s = s} h (drawing f o m l) = draws-sound _ s o m h
+sound-step h (opening l g) = record { space = omega arith; within = omega arith; few = headed _ g .few; total = omega arith }
+
+pub byte-sound : (s : Standing) (b : ℕ) → Sound (s .reader) → Sound (byte s b .reader)
+byte-sound s b h = sound-step h (step s b)
+
+pub reads-sound : (bs : List ℕ) (s : Standing) → Sound (s .reader) → Sound (reads bs s .reader)
+unfolding reads
+reads-sound [] s h = h
+reads-sound (b ∷ bs) s h = reads-sound bs (byte s b) (byte-sound s b h)
