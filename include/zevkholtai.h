@@ -1,4 +1,4 @@
-/* The drawing engine of the DECchip 21030 (TGA card, 8 bits per pixel), for hosts in C and C++. Link libhost.a.
+/* The drawing engine of the DECchip 21030 (TGA card, 8 bits per pixel), for hosts in C and C++. Link libzevkholtai.a.
  *
  * The host keeps the card and its video memory (VRAM) and lends them to each call, but a trace that arrives in chunks takes
  * the card and its reader by value and gives them back. The library keeps nothing, allocates nothing and makes no system

@@ -3,7 +3,7 @@
 use std::env;
 
 fn main() {
-    link("CARGO_FEATURE_ENGINE", "ZEVKHOLTAI_LIB", "host");
+    link("CARGO_FEATURE_ENGINE", "ZEVKHOLTAI_LIB", "zevkholtai");
     link("CARGO_FEATURE_OTHER", "ZEVKHOLTAI_OTHER", "other");
 }
 

@@ -1,5 +1,5 @@
-// A write and a run as a C program gives and gets them, on a card by value. The crate `host` takes the card out of the program's memory,
-// calls one of these, and stores the next card in place.
+// A write and a run as a C program gives and gets them, on a card by value. The crates `host` and `host_run` take the card out of the program's memory,
+// call one of these each, and store the next card in place.
 ghost use Rattle.answers.specs.Answers.{writeOf, Wrote, Replayed};
 use card::Card;
 use card::Write;

@@ -1,3 +1,2 @@
--- What the proofs of the entries share.
-pub mod Lent
+-- What the proofs of the entries on a buffer share.
 pub mod Lengths

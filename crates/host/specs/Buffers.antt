@@ -1,5 +1,5 @@
 -- What each entry on a buffer promises: its answer, and what it leaves of the buffer that was lent to it, by the definitions of `format` at what was handed in.
--- `zevkholtai_write` and `zevkholtai_run` promise what `answers` does, `zevkholtai_reset` what `card` does.
+-- `zevkholtai_write` promises what `answers` does, `zevkholtai_reset` what `card` does.
 use mathlib.Core.Path.{_≡_}
 use mathlib.Core.List.{List}
 use Prim.Native.Nat.{ℕ}

@@ -1,18 +1,15 @@
-// What a C program needs: the card stands in its memory, and each entry changes it there; the entries of the serial reader take reader and card by
-// value instead, and what they mean stands in the crate `line`.
-// include/zevkholtai.h declares these functions. What the entries on a card mean stands in the crates `card` (reset) and `answers`, what those on a
-// buffer mean in specs/Buffers.antt.
+// What a C program needs, but for a run (crate `host_run`) and a trace that arrives in chunks (crate `host_serial`): the card stands in its memory, and
+// each entry changes it there; and traces are made in its buffer. include/zevkholtai.h declares the functions of all three crates.
+// Each of the three is compiled by itself. In it one function calls the engine's write; a function with one caller is built into it, so that no card is
+// copied at the call (measured: docs/changes/words.md).
+// What the entries on a card mean stands in the crates `card` (reset) and `answers`, what those on a buffer mean in specs/Buffers.antt.
 ghost use mathlib.Core.Path.{_≡_};
 ghost use Rattle.card.specs.Reset.{resetCard};
-ghost use Rattle.answers.specs.Answers.{writeOf, Wrote, Replayed};
-ghost use Rattle.line.specs.Serial.{newReader, standing, chunk, ended};
+ghost use Rattle.answers.specs.Answers.{writeOf, Wrote};
 ghost use Rattle.host.specs.Buffers.{Began, Grew, Looked};
 use answers::Answer;
-use answers::Ran;
 use card::Card;
 use card::Write;
-use line::Fed;
-use line::Reader;
 
 // What starting, appending and checking answer: the number, and a length in bytes.
 #[repr(C)]
@@ -47,17 +44,6 @@ pub extern "C" fn zevkholtai_write(
     let s = answers::write_on(*card, space, lanes, address, word, vram);
     *card = s.card;
     s.answer
-}
-
-// The entries of a part of a trace, until the budget or the part ends or one is refused.
-#[no_mangle]
-pub extern "C" fn zevkholtai_run(card: &mut Card, part: &[u8], vram: &mut [u8], budget: u32) -> Ran
-    ensures { λ r. ⌜
-        Replayed (now (part .entry)) budget (now (card .entry)) (now (vram .entry)) r (now (card .exit)) (now (vram .exit)) ⌝ }
-{
-    let s = answers::run_on(*card, part, vram, budget);
-    *card = s.card;
-    s.ran
 }
 
 // ---- Traces in a buffer.
@@ -110,31 +96,4 @@ pub extern "C" fn zevkholtai_check(bytes: &[u8]) -> Checked
     let mut length: u32 = 0;
     checking::check(bytes, &mut number, &mut length);
     Checked { number, length }
-}
-
-// ---- A trace that arrives in chunks: reader and card by value.
-
-// A new reader.
-#[no_mangle]
-pub extern "C" fn zevkholtai_new_reader() -> Reader
-    ensures { λ r. ⌜ r ≡ newReader ⌝ }
-{
-    serial::new()
-}
-
-// One chunk, with the card and VRAM as the last one left them.
-#[no_mangle]
-pub extern "C" fn zevkholtai_chunk(reader: Reader, card: Card, bytes: &[u8], vram: &mut [u8]) -> Fed
-    ensures { λ f. ⌜
-        standing (f .reader) (f .card) (now (vram .exit)) ≡ chunk (now (bytes .entry)) (standing reader card (now (vram .entry))) ⌝ }
-{
-    serial::chunk(reader, card, bytes, vram)
-}
-
-// The end call.
-#[no_mangle]
-pub extern "C" fn zevkholtai_end(reader: Reader) -> Reader
-    ensures { λ r. ⌜ r ≡ ended reader ⌝ }
-{
-    serial::end(reader)
 }

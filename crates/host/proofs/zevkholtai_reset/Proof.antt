@@ -1,6 +1,6 @@
 -- `host::zevkholtai_reset` meets its contract: a walk of its MIR, by hand. `Card::reset` is called, of which the proof knows only
 -- that it meets its contract; the borrow of the lent card is opened, the card that was returned is stored there, and the borrow
--- is closed at it (`Lent.antt`).
+-- is closed at it (`Lent` of `card`).
 -- Assumes nothing.
 use mathlib.Core.Path.{_≡_, refl}
 use Prim.Native.Nat.{ℕ, _<_, _^_}
@@ -41,7 +41,7 @@ use Rattle.card.proofs.Card.reset as reset
 use Rattle.card.proofs.Card.reset.Symbol as reset-def
 use Rattle.card.proofs.Card.reset.Symbol.{name as #card·Card·reset}
 use Rattle.card.proofs.Card.reset.Met as reset-thm
-use Rattle.host.proofs.Lent.{cardS, byte-stay, byte-goes, typed, byte-owned, card-opens, card-closes}
+use Rattle.card.proofs.Lent.{cardS, byte-stay, byte-goes, typed, byte-owned, card-opens, card-closes}
 use Rattle.host.proofs.zevkholtai_reset.Key.{name as #host·zevkholtai-reset}
 use Rattle.host.proofs.zevkholtai_reset as f
 use Rattle.host.proofs.zevkholtai_reset.Statement as stated

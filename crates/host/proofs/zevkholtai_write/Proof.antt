@@ -1,6 +1,6 @@
 -- `host::zevkholtai_write` meets its contract: a walk of its MIR, by hand. The borrow of the lent card is opened and the card is
 -- read; `write_on` is called with it, of which the proof knows only that it meets its contract; the card that was returned is
--- stored in place, and the borrow is closed at it (`Lent.antt`).
+-- stored in place, and the borrow is closed at it (`Lent` of `card`).
 -- The slice is passed on at its own lifetime, share and ghost name: it is given up for good, and what `write_on` says of the last
 -- list is what the entry says of VRAM at exit.
 -- Assumes nothing.
@@ -51,7 +51,7 @@ use Rattle.answers.proofs.Answer as N
 use Rattle.answers.proofs.Answer.Laws as N′
 use Rattle.answers.proofs.Written as O
 use Rattle.answers.proofs.Written.Laws as O′
-use Rattle.host.proofs.Lent.{cardS, byteS, byte-stay, word-stay, byte-goes, word-goes, spell, typed, slice-typed, byte-owned, word-owned, card-owned, card-opens, card-closes}
+use Rattle.card.proofs.Lent.{cardS, byteS, byte-stay, word-stay, byte-goes, word-goes, spell, typed, slice-typed, byte-owned, word-owned, card-owned, card-opens, card-closes}
 use Rattle.answers.proofs.write_on as write-on
 use Rattle.answers.proofs.write_on.Symbol as write-on-def
 use Rattle.answers.proofs.write_on.Symbol.{name as #answers·write-on}

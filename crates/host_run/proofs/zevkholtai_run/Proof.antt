@@ -1,6 +1,6 @@
--- `host::zevkholtai_run` meets its contract: a walk of its MIR, by hand. The borrow of the lent card is opened and the card is
+-- `host_run::zevkholtai_run` meets its contract: a walk of its MIR, by hand. The borrow of the lent card is opened and the card is
 -- read; `run_on` is called with it, of which the proof knows only that it meets its contract; the card that was returned is
--- stored in place, and the borrow is closed at it (`Lent.antt`).
+-- stored in place, and the borrow is closed at it (`Lent` of `card`).
 -- Both slices are passed on at their own lifetimes, shares and ghost names: they are given up for good, and what `run_on` says of
 -- the last list is what the entry says of VRAM at exit.
 -- Assumes nothing.
@@ -52,15 +52,15 @@ use Rattle.answers.proofs.Ran as N
 use Rattle.answers.proofs.Ran.Laws as N′
 use Rattle.answers.proofs.Run as O
 use Rattle.answers.proofs.Run.Laws as O′
-use Rattle.host.proofs.Lent.{cardS, byteS, word-stay, word-goes, spell, typed, slice-typed, word-owned, card-owned, card-opens, card-closes}
+use Rattle.card.proofs.Lent.{cardS, byteS, word-stay, word-goes, spell, typed, slice-typed, word-owned, card-owned, card-opens, card-closes}
 use Rattle.answers.proofs.run_on as run-on
 use Rattle.answers.proofs.run_on.Symbol as run-on-def
 use Rattle.answers.proofs.run_on.Symbol.{name as #answers·run-on}
 use Rattle.answers.proofs.run_on.Met as run-on-thm
-use Rattle.host.proofs.zevkholtai_run.Key.{name as #host·zevkholtai-run}
-use Rattle.host.proofs.zevkholtai_run as f
-use Rattle.host.proofs.zevkholtai_run.Statement as stated
-use Rattle.host.proofs.zevkholtai_run.Code as code
+use Rattle.host_run.proofs.zevkholtai_run.Key.{name as #host-run·zevkholtai-run}
+use Rattle.host_run.proofs.zevkholtai_run as f
+use Rattle.host_run.proofs.zevkholtai_run.Statement as stated
+use Rattle.host_run.proofs.zevkholtai_run.Code as code
 
 -- nothing is had of the part at exit, and nothing is said of it
 abbrev part-stay : Stay (shrSliceOf {n = 3} (1 ∷ []) tt byteS) yes
@@ -232,6 +232,6 @@ pub zevkholtai-run-spec : {M : Type 1} → stated.statement M
 unfolding code.routine tablesOf
 zevkholtai-run-spec 𝓤 H 𝓜 𝓖 𝓡 =
     entered 𝓤 H (tripleOf 𝓤 H (𝓖 .A) f.signature (f.spec 𝓤 H (𝓖 .A) (𝓜 .mem) (𝓡 .run)))
-    (tables 𝓤 H 𝓜 𝓡 code.env .C) (tables 𝓤 H 𝓜 𝓡 code.env .Λ) #host·zevkholtai-run code.function (code.unfolded 𝓤 H 𝓜 𝓡)
+    (tables 𝓤 H 𝓜 𝓡 code.env .C) (tables 𝓤 H 𝓜 𝓡 code.env .Λ) #host-run·zevkholtai-run code.function (code.unfolded 𝓤 H 𝓜 𝓡)
     (zevkholtai-run-meets 𝓤 H (𝓖 .A) (givenOf 𝓤 H 𝓜 𝓖) (𝓜 .mem) (𝓡 .run) (tablesOf 𝓤 H 𝓜 (tables 𝓤 H 𝓜 𝓡 code.env))
     (cited 𝓤 H (RunOn 𝓤 H (𝓖 .A) (𝓜 .mem) (𝓡 .run)) 𝓜 𝓡 code.env #answers·run-on run-on-def.routine code.calls-answers·run-on (run-on-thm.met 𝓤 H 𝓜 𝓖 𝓡)))

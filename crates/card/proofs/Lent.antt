@@ -1,4 +1,4 @@
--- A `&mut Card` that is lent to an entry, for the walks of the entries.
+-- A `&mut Card` that is lent to an entry for C, for the walks of those entries (crates `host` and `host_run`).
 --     cardS, byteS, wordS  a card, a `u8` and a `u32` among the parameters of a signature
 --     byte-stay, word-stay, byte-goes, word-goes       what a walk has of a number at exit
 --     spell, typed         a card's machine value, and that a value which is a card's has the type of a card's place in memory
