@@ -1,5 +1,4 @@
 -- The laws of how a plan is drawn.
-pub mod Arrays
 pub mod Sources
 pub mod Paints
 pub mod Fitting

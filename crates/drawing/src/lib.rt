@@ -12,7 +12,6 @@ use plan::Plan;
 use span::Tally;
 
 mod brush;
-mod pattern;
 
 // The pixels of the whole copy buffer.
 const WHOLE: u32 = 64;

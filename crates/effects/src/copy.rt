@@ -2,42 +2,23 @@
 ghost use mathlib.Core.Path.{_≡_};
 ghost use mathlib.Core.Bool.{cond};
 ghost use mathlib.Core.List.{_++_};
-ghost use Prim.Native.Nat.{_+_, _≤_};
+ghost use Prim.Native.Nat.{_+_, _*_, _%_, _≤_};
 ghost use lib.Dec.{leb};
 ghost use lib.ListN.{length, getD, take, drop};
 ghost use Rattle.raster.specs.Pixel.{bit};
 ghost use Rattle.span.specs.Fragments.{listed};
+use card::ONES;
 
-// The pixel where the test holds, else 0.
-fn kept_if(test: bool, pixel: u8) -> u8
-    ensures { λ r. ⌜ r ≡ cond test pixel 0 ⌝ }
-{
-    if test { pixel } else { 0 }
-}
-
-// 32 pixels where the bit is set, else 0; the other half of the buffer stays.
-fn read_32(vram: &[u8], at: usize, bits: u32, buffer: [u8; 64]) -> [u8; 64]
-    requires { ⌜ at + 32 ≤ length (now vram) ⌝ }
-    ensures { λ r. ⌜ r ≡ listed 32 (λ i. cond (bit bits i) (getD (now (vram .entry)) (at + i) 0) 0) ++ drop 32 buffer ⌝ }
+// The first 8 n bytes of the buffer read by words: pixel i where bit i mod 32 is set, else 0.
+fn read(vram: &[u8], at: usize, n: usize, bits: u32, buffer: [u8; 64]) -> [u8; 64]
+    requires { ⌜ (at + 8 * n ≤ length (now vram)) × (n ≤ 8) ⌝ }
+    ensures { λ r. ⌜ r ≡ listed (8 * n) (λ i. cond (bit bits (i % 32)) (getD (now (vram .entry)) (at + i) 0) 0) ++ drop (8 * n) buffer ⌝ }
 {
     let mut next = buffer;
-    let mut k = 0;
-    while k < 32 {
-        next[k] = kept_if((bits >> k) % 2 == 1, vram[at + k]);
-        k += 1;
-    }
-    next
-}
-
-// All 64 pixels.
-fn read_64(vram: &[u8], at: usize) -> [u8; 64]
-    requires { ⌜ at + 64 ≤ length (now vram) ⌝ }
-    ensures { λ r. ⌜ r ≡ take 64 (drop at (now (vram .entry))) ⌝ }
-{
-    let mut next = [0u8; 64];
-    let mut k = 0;
-    while k < 64 {
-        next[k] = vram[at + k];
+    let mut k: usize = 0;
+    while k < n {
+        let enabled = words::widen(((bits >> (8 * (k % 4))) % 0x100) as u8);
+        words::store(&mut next, 8 * k, words::load(vram, at + 8 * k) & enabled);
         k += 1;
     }
     next
@@ -52,7 +33,7 @@ pub(crate) fn source(vram: &[u8], address: u32, bits: u32, buffer: [u8; 64]) -> 
     if vram.len() < at + 32 {
         return buffer;
     }
-    read_32(vram, at, bits, buffer)
+    read(vram, at, 4, bits, buffer)
 }
 
 // The 64-byte copy's source.
@@ -63,5 +44,5 @@ pub(crate) fn load(vram: &[u8], address: u32, buffer: [u8; 64]) -> [u8; 64]
     if vram.len() < at + 64 {
         return buffer;
     }
-    read_64(vram, at)
+    read(vram, at, 8, ONES, buffer)
 }

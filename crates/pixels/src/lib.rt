@@ -1,35 +1,40 @@
-// The rule of one pixel, which is one byte here.
+// The rule of one pixel, which is one byte here, for eight pixels at once: a word of 64 bits has eight.
 ghost use mathlib.Core.Path.{_≡_};
-ghost use mathlib.Core.Bool.{cond};
+ghost use Prim.Native.Nat.{_-_, _^_};
 ghost use lib.Bits.{bitXor};
 ghost use Rattle.raster.specs.Pixel.{bit, number, made};
 
-// A raster operation reduced, as X servers call it, to one source byte and one mask: an old byte becomes (old & and) ^ xor.
+// A raster operation reduced, as X servers call it, to one source word and one mask: an old word becomes (old & and) ^ xor.
 pub struct Reduced {
-    pub and: u8,
-    pub xor: u8,
+    pub and: u64,
+    pub xor: u64,
 }
+
+// All 64 bits.
+pub const ONES: u64 = 0xFFFF_FFFF_FFFF_FFFF;
 
 // All ones where n is odd, else 0.
-fn spread(n: u8) -> u8
-    ensures { λ r. ⌜ r ≡ number 8 (λ k. bit n 0) ⌝ }
+fn spread(n: u8) -> u64
+    ensures { λ r. ⌜ r ≡ number 64 (λ k. bit n 0) ⌝ }
 {
-    n % 2 * 255
+    (n % 2) as u64 * ONES
 }
 
-// Each bit of a where c has a one, else of b.
-fn select(c: u8, a: u8, b: u8) -> u8
-    ensures { λ r. ⌜ r ≡ number 8 (λ k. cond (bit c k) (bit a k) (bit b k)) ⌝ }
+// The two words that settle every old word: what an old word of zeros becomes, and where an old word of ones becomes another.
+pub fn reduce(op: u8, mask: u64, source: u64) -> Reduced
+    ensures { λ r. ⌜ (r .xor ≡ made 64 op mask source 0)
+        × (r .and ≡ bitXor (made 64 op mask source 0) (made 64 op mask source (2 ^ 64 - 1))) ⌝ }
 {
-    b ^ (c & (a ^ b))
-}
-
-// The two bytes that settle every old byte: what an old byte of zeros becomes, and where an old byte of ones becomes another.
-pub fn reduce(op: u8, mask: u8, source: u8) -> Reduced
-    ensures { λ r. ⌜ (r .xor ≡ made 8 op mask source 0) × (r .and ≡ bitXor (made 8 op mask source 0) (made 8 op mask source 255)) ⌝ }
-{
-    let zeros = select(mask, select(source, spread(op / 2), spread(op / 8)), 0);
-    let ones = select(mask, select(source, spread(op), spread(op / 4)), 255);
+    let zeros = words::select(
+        mask,
+        words::select(source, spread(op / 2), spread(op / 8)),
+        0,
+    );
+    let ones = words::select(
+        mask,
+        words::select(source, spread(op), spread(op / 4)),
+        ONES,
+    );
     Reduced {
         and: zeros ^ ones,
         xor: zeros,
@@ -40,6 +45,6 @@ pub fn reduce(op: u8, mask: u8, source: u8) -> Reduced
 pub fn make(op: u8, mask: u8, source: u8, old: u8) -> u8
     ensures { λ r. ⌜ r ≡ made 8 op mask source old ⌝ }
 {
-    let r = reduce(op, mask, source);
-    (old & r.and) ^ r.xor
+    let r = reduce(op, mask as u64, source as u64);
+    (((old as u64 & r.and) ^ r.xor) % 256) as u8
 }

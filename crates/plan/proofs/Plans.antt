@@ -16,6 +16,7 @@ use Rattle.span.specs.Layers.{drawnAll, summed}
 use Rattle.span.specs.Spans.{Span, span, spanned, enabledIn}
 use Rattle.span.proofs.Counted.{counted-same, counted-none}
 use Rattle.span.proofs.Drawn.{drawn-same, drawn-none}
+use Rattle.span.proofs.Patterns.{tiled-solid}
 use Rattle.span.proofs.Spans.{spanned-same, spanned-off}
 use Rattle.card.specs.Registers.{rowAt, isSet, _is_}
 use Rattle.card.specs.declared.Card.{Card}
@@ -34,25 +35,17 @@ gate : (b : Bool) (x j : ℕ) → j < 32 → bit (cond b x 0) (j % 32) ≡ b && 
 gate true x j h = first-turn x j h
 gate false x j h = bit-zeros (j % 32)
 
--- the two words of a tile as the block colours have them, and as one word twice
+-- the two words of a tile as the block colours have them
 blocked : (block : List ℕ) (t : ℕ) → t < 2 → getD (getD block 0 0 ∷ getD block 1 0 ∷ []) t 0 ≡ getD block t 0
 blocked block zero h = refl
 blocked block (suc zero) h = refl
 blocked block (suc (suc t)) h = absurd (omega arith)
-
-twice : (x t : ℕ) → t < 2 → getD (x ∷ x ∷ []) t 0 ≡ x
-twice x zero h = refl
-twice x (suc zero) h = refl
-twice x (suc (suc t)) h = absurd (omega arith)
 
 half-of : (p : ℕ) → p % 8 / 4 < 2
 half-of p = omega arith
 
 tiled-blocks : (block : List ℕ) (p : ℕ) → byte (getD (getD block 0 0 ∷ getD block 1 0 ∷ []) (p % 8 / 4) 0) (p % 4) ≡ byte (getD block (p % 8 / 4) 0) (p % 4)
 tiled-blocks block p = ap (λ (x : ℕ). byte x (p % 4)) (blocked block (p % 8 / 4) (half-of p))
-
-pub tiled-solid : (x p : ℕ) → byte (getD (x ∷ x ∷ []) (p % 8 / 4) 0) (p % 4) ≡ byte x (p % 4)
-tiled-solid x p = ap (λ (y : ℕ). byte y (p % 4)) (twice x (p % 8 / 4) (half-of p))
 
 module _ (c : Card) (w : Write) where
   -- a frame write: mode by mode

@@ -1,4 +1,4 @@
--- A test that antt computes at every number below a bound, carried to each of them; and the bits of 0 and of 255. Assumes nothing.
+-- A test that antt computes at every number below a bound, carried to each of them; and the bits of 0. Assumes nothing.
 use mathlib.Core.Path.{_≡_, refl, subst}
 use mathlib.Core.Bool.{Bool, true, false, _&&_}
 use Prim.Native.Nat.{ℕ, zero, suc, _<_}
@@ -36,7 +36,3 @@ is-true false t = absurd t
 pub bit-zeros : (k : ℕ) → bit 0 k ≡ false
 unfolding bit
 bit-zeros k = simp zero-div
-
-pub bit-ones : (k : ℕ) → k < 8 → bit 255 k ≡ true
-unfolding bit
-bit-ones k h = is-true (bit 255 k) (all-below 8 (bit 255) tt k h)

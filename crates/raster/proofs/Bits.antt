@@ -2,10 +2,10 @@
 use mathlib.Core.Path.{_≡_, refl, ap, sym, _∙_}
 use mathlib.Core.Bool.{Bool, true, false}
 use Prim.Native.Nat.{ℕ, zero, suc, _+_, _-_, _*_, _/_, _%_, _^_, _<_, suc-le-suc}
-use native.Mathlib.Nat.{le-of-suc-le-suc, not-suc-le-zero, div-one, zero-lt-suc}
+use native.Mathlib.Nat.{le-of-suc-le-suc, not-suc-le-zero, div-one, zero-lt-suc, zero-mul, one-mul}
 use native.Mathlib.Omega.{arith}
 use lib.Dec.{eqb}
-use lib.Pow.{field, mod-mod-pow, shr-shr}
+use lib.Pow.{field, mod-mod-pow, shr-shr, pow-pos}
 use Rattle.raster.specs.Pixel.{bit, value, number}
 
 pub bit-zero : (n : ℕ) → bit n 0 ≡ eqb (n % 2) 1
@@ -77,3 +77,23 @@ number-bits (suc w) n h =
 -- two numbers below 2 ^ w whose bits agree are one number
 pub same-bits : (w a b : ℕ) → a < 2 ^ w → b < 2 ^ w → ((k : ℕ) → k < w → bit a k ≡ bit b k) → a ≡ b
 same-bits w a b ha hb e = sym (number-bits w a ha) ∙ (number-same w e ∙ number-bits w b hb)
+
+number-zeros : (w : ℕ) → number w (λ k. false) ≡ 0
+unfolding number
+number-zeros zero = refl
+number-zeros (suc w) = rw (number-zeros w)
+
+number-ones : (w : ℕ) → number w (λ k. true) ≡ 2 ^ w - 1
+unfolding number
+number-ones zero = refl
+number-ones (suc w) = rw (number-ones w) (omega (arith, pow-pos w))
+
+-- the number whose w bits are all set
+pub bit-ones : (w k : ℕ) → k < w → bit (2 ^ w - 1) k ≡ true
+bit-ones w k h = ap (λ (n : ℕ). bit n k) (sym (number-ones w)) ∙ bit-number w (λ j. true) k h
+
+-- one bit, w times
+pub number-spread : (w m : ℕ) → m < 2 → m * (2 ^ w - 1) ≡ number w (λ k. eqb m 1)
+number-spread w zero h = zero-mul (2 ^ w - 1) ∙ sym (number-zeros w)
+number-spread w (suc zero) h = one-mul (2 ^ w - 1) ∙ sym (number-ones w)
+number-spread w (suc (suc m)) h = absurd (omega arith)

@@ -1,7 +1,9 @@
--- The laws of fragments, over any fragments at all; then of layers and spans.
+-- The bytes of a number; the laws of fragments, over any fragments at all; then of layers and spans.
+pub mod Bytes
 pub mod Painted
 pub mod Drawn
 pub mod Layers
 pub mod Counted
 pub mod Listed
 pub mod Spans
+pub mod Patterns

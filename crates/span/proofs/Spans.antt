@@ -9,9 +9,9 @@ use lib.ListN.{length, getD, take, drop, length-take, length-drop, drop-of-lengt
 use lib.Seq.{take-all}
 use borrow.Rule.Slice.PartMut.{putMid}
 use Rattle.raster.specs.Pixel.{bit}
-use Rattle.span.specs.Fragments.{Fragment, stays, paint, painted, drawn, before, from, counted}
+use Rattle.span.specs.Fragments.{Fragment, stays, paint, painted, drawn, before, from, counted, byte}
 use Rattle.span.specs.Spans.{Span, In, pixel, spanned, enabledIn, piece}
-use Rattle.span.specs.Strokes.{stroke, enabled, Drew, Draws}
+use Rattle.span.specs.Strokes.{stroke, enabled, patternByte, Drew, Draws}
 use Rattle.span.specs.declared.Strokes.{Strokes}
 use Rattle.span.specs.declared.Tally.{Tally}
 use Rattle.span.proofs.Counted.{counted-same, counted-append}
@@ -119,25 +119,19 @@ module _ (s : Span) (k n : ℕ) (e : k + n ≡ s .width) where
   cut-counts =
       beside-counts (piece 0 k s) (piece k n s) s e (λ j h. let z : 0 + j ≡ j = omega arith in ap (s .on) z) (λ j h. refl)
 
-by-four : (phase first j : ℕ) → phase ≡ first % 4 → (phase + j) % 4 ≡ (first + j) % 4
-by-four phase first j h = omega arith
-
 -- strokes whose word, bytes and masks are those of a span draw it
-pub draws : (s : Strokes) (op : ℕ) (mask : ℕ → ℕ) (p : Span) → s .op ≡ op → s .width ≡ p .width → s .phase ≡ p .first % 4
-    → ((a : ℕ) → getD (s .mask) (a % 4) 0 ≡ mask a)
+pub draws : (s : Strokes) (op : ℕ) (mask : ℕ → ℕ) (p : Span) → s .op ≡ op → s .width ≡ p .width
+    → ((j : ℕ) → byte (s .mask) (j % 8) ≡ mask (p .first + j))
     → ((j : ℕ) → j < p .width → bit (s .enable) (j % 32) ≡ p .on j)
-    → ((j : ℕ) → j < p .width → getD (s .source) (j % 32) 0 ≡ p .takes j)
+    → ((j : ℕ) → j < p .width → patternByte (s .source) j ≡ p .takes j)
     → Draws s op mask p
-draws s op mask p eo ew ep em ee et =
+draws s op mask p eo ew em ee et =
     record {
       under = eo;
       wide = ew;
       enables = ee;
       paints = λ j h.
-          ap₂ (λ (b : Bool) (x : Fragment). cond b x stays) (ee j h)
-          (ap₂ (λ (m t : ℕ). paint m t)
-          (ap (λ (l : ℕ). getD (s .mask) l 0) (by-four (s .phase) (p .first) j ep) ∙ em (p .first + j))
-          (et j h));
+          ap₂ (λ (b : Bool) (x : Fragment). cond b x stays) (ee j h) (ap₂ (λ (m t : ℕ). paint m t) (em j) (et j h));
     }
 
 module _ (s : Strokes) (op : ℕ) (mask : ℕ → ℕ) (p : Span) (d : Draws s op mask p) where

@@ -1,11 +1,11 @@
--- What the span routine draws: a pattern of 32 pixels that repeats. Every span of a mode is one of these, and that of the 64-byte copy two, one after the other.
+-- What the span routine draws: a pattern of 32 pixels that repeats, four words of eight. Every span of a mode is one of these, and that of the 64-byte copy two, one after the other.
 use mathlib.Core.Path.{_≡_}
 use mathlib.Core.Bool.{Bool, cond}
 use mathlib.Core.List.{List}
-use Prim.Native.Nat.{ℕ, _+_, _-_, _%_, _<_, min}
+use Prim.Native.Nat.{ℕ, _-_, _/_, _%_, _<_, min}
 use lib.ListN.{length, getD}
 use Rattle.raster.specs.Pixel.{bit}
-use Rattle.span.specs.Fragments.{Fragment, stays, paint, drawn, before, from, counted}
+use Rattle.span.specs.Fragments.{Fragment, stays, paint, drawn, before, from, counted, byte}
 use Rattle.span.specs.Spans.{Span, pixel}
 use Rattle.span.specs.declared.Tally.{Tally}
 use Rattle.span.specs.declared.Strokes.{Strokes}
@@ -14,9 +14,13 @@ use Rattle.span.specs.declared.Strokes.{Strokes}
 abbrev pub enabled : Strokes → ℕ → Bool
 enabled s j = bit (s .enable) (j % 32)
 
--- it takes byte j mod 32 of the source, under the mask of its address mod 4; the span starts at an address that is `phase` mod 4
+-- byte j mod 32 of four words
+abbrev pub patternByte : List ℕ → ℕ → ℕ
+patternByte ws j = byte (getD ws (j / 8 % 4) 0) (j % 8)
+
+-- it takes byte j mod 32 of the source, under byte j mod 8 of the mask
 abbrev pub stroke : Strokes → ℕ → Fragment
-stroke s j = cond (enabled s j) (paint (getD (s .mask) ((s .phase + j) % 4) 0) (getD (s .source) (j % 32) 0)) stays
+stroke s j = cond (enabled s j) (paint (byte (s .mask) (j % 8)) (patternByte (s .source) j)) stays
 
 -- strokes s from address a on, as much of them as the picture v holds, gave answer r and left picture v′
 pub record Drew (s : Strokes) (a : ℕ) (v : List ℕ) (r : Tally) (v′ : List ℕ) : Type 0 where

@@ -2,12 +2,12 @@
 // takes and answers; what that means stands in specs/Strokes.antt.
 
 // A pattern of 32 pixels that repeats over `width` pixels: which are drawn, what each takes, under which mask.
+// A word has eight pixels, the first its lowest byte; the mask's eight repeat.
 pub struct Strokes {
     pub op: u8,
     pub enable: u32,
-    pub source: [u8; 32],
-    pub mask: [u8; 4],
-    pub phase: u32,
+    pub source: [u64; 4],
+    pub mask: u64,
     pub width: u32,
 }
 

@@ -1,2 +1,3 @@
--- One turn of the loop over the pixels.
-pub mod Turn
+-- Turns of the loops over words and bytes, and the pixels counted.
+pub mod Turns
+pub mod SetBits

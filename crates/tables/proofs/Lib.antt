@@ -1,3 +1,2 @@
--- The laws of a pattern that repeats, and of a fragment reduced to two bytes.
-pub mod Pattern
+-- The laws of fragments reduced to two bytes, and of the words that hold eight of them.
 pub mod Reducing

@@ -1,60 +1,49 @@
 // The table of a pattern of strokes, made once before any pixel is drawn. What it holds stands in specs/Reduced.antt.
 ghost use mathlib.Core.Path.{_≡_};
 ghost use mathlib.Core.Bool.{cond};
-ghost use Rattle.raster.specs.Pixel.{value};
-ghost use Rattle.span.specs.Fragments.{stays, paint};
-ghost use Rattle.tables.specs.Reduced.{keeps, flips, Digested};
+ghost use Prim.Native.Nat.{ℕ, _<_};
+ghost use Rattle.raster.specs.Pixel.{bit};
+ghost use Rattle.span.specs.Fragments.{stays, paint, byte};
+ghost use Rattle.span.specs.Strokes.{stroke};
+ghost use Rattle.tables.specs.Reduced.{keeps, flips, Makes};
+use pixels::Reduced;
 use span::Strokes;
 
-// What one pixel of the pattern does: an old byte becomes (old & and) ^ xor, and `on` is added to the count.
-struct Entry {
-    and: u8,
-    xor: u8,
-    on: u8,
-}
-
-// The pattern digested: an entry for each of its pixels.
+// The pattern digested, eight pixels a word: an old word becomes (old & and) ^ xor.
 pub struct Table {
-    pub and: [u8; 32],
-    pub xor: [u8; 32],
-    pub on: [u8; 32],
+    pub and: [u64; 4],
+    pub xor: [u64; 4],
 }
 
-// The entry of one pixel. One that is not enabled is drawn under the mask 0, which changes nothing: no branch.
-fn reduced(op: u8, mask: u8, source: u8, on: bool) -> Entry
-    ensures { λ r. ⌜ (r .and ≡ keeps op (cond on (paint mask source) stays))
-        × (r .xor ≡ flips op (cond on (paint mask source) stays))
-        × (r .on ≡ value on) ⌝ }
+// Eight pixels, of which those are drawn whose bit is set. The others are drawn under the mask 0, which changes nothing: no branch.
+fn masked(op: u8, mask: u64, bits: u8, source: u64) -> Reduced
+    ensures { λ r. ⌜ ((k : ℕ) → k < 8
+        → (byte (r .and) k ≡ keeps op (cond (bit bits k) (paint (byte mask k) (byte source k)) stays))
+        × (byte (r .xor) k ≡ flips op (cond (bit bits k) (paint (byte mask k) (byte source k)) stays))) ⌝ }
 {
-    let on = on as u8;
-    let r = pixels::reduce(op, mask * on, source);
-    Entry {
-        and: r.and,
-        xor: r.xor,
-        on,
-    }
+    pixels::reduce(op, mask & words::widen(bits), source)
 }
 
-// The table of the strokes, made before the loop over the pixels: no shift by the pixel's number is left for it.
+// The table of the strokes.
 pub fn digest(s: Strokes) -> Table
-    ensures { λ r. ⌜ Digested s r ⌝ }
+    ensures { λ r. ⌜ Makes r (s .op) (stroke s) ⌝ }
 {
-    let phase = (s.phase % 4) as usize;
-    let mut and = [0u8; 32];
-    let mut xor = [0u8; 32];
-    let mut on = [0u8; 32];
-    let mut k = 0;
-    while k < 32 {
-        let e = reduced(
-            s.op,
-            s.mask[(phase + k) % 4],
-            s.source[k],
-            (s.enable >> k) % 2 == 1,
-        );
-        and[k] = e.and;
-        xor[k] = e.xor;
-        on[k] = e.on;
-        k += 1;
+    let a = masked(s.op, s.mask, (s.enable % 0x100) as u8, s.source[0]);
+    let b = masked(s.op, s.mask, (s.enable / 0x100 % 0x100) as u8, s.source[1]);
+    let c = masked(
+        s.op,
+        s.mask,
+        (s.enable / 0x1_0000 % 0x100) as u8,
+        s.source[2],
+    );
+    let d = masked(
+        s.op,
+        s.mask,
+        (s.enable / 0x100_0000 % 0x100) as u8,
+        s.source[3],
+    );
+    Table {
+        and: [a.and, b.and, c.and, d.and],
+        xor: [a.xor, b.xor, c.xor, d.xor],
     }
-    Table { and, xor, on }
 }

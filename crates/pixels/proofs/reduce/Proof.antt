@@ -1,11 +1,12 @@
--- `pixels::reduce` meets its contract: what the operation makes of a byte of zeros and of a byte of ones. Assumes nothing.
+-- `pixels::reduce` meets its contract: what the operation makes of a word of zeros and of a word of ones. Assumes nothing.
 use mathlib.Core.Path.{_≡_, ap₂}
 use mathlib.Core.Bool.{true, false}
-use Prim.Native.Nat.{ℕ}
+use Prim.Native.Nat.{ℕ, _-_, _^_}
 use lib.Bits.{bitXor}
 use borrow.Author.Needs.{needs}
 use Rattle.raster.specs.Pixel.{made}
-use Rattle.raster.proofs.Below.{bit-zeros, bit-ones}
+use Rattle.raster.proofs.Below.{bit-zeros}
+use Rattle.raster.proofs.Bits.{bit-ones}
 use Rattle.raster.proofs.Reducing.{made-constant, result-bits}
 use Rattle.pixels.proofs.reduce.Statement.{statement}
 use Rattle.pixels.proofs.reduce.Tie as tie
@@ -38,19 +39,19 @@ returns : tie.Need-returns
 returns c =
     let a = c .before .before .before .before .before .before .before .before .args in
     let b = result-bits (a .op) in
-    let zeros : c .before .before .before .before .select2 .result ≡ made 8 (a .op) (a .mask) (a .source) 0
+    let zeros : c .before .before .before .before .select2 .result ≡ made 64 (a .op) (a .mask) (a .source) 0
     = rw (
       c .before .before .before .before .select2 .ensures,
       c .before .before .before .before .before .select .ensures,
       c .before .before .before .before .before .before .spread2 .ensures,
       c .before .before .before .before .before .before .before .spread .ensures,
     )
-    (made-constant (a .op) (a .mask) (a .source) 0 false _ _ (λ k _. bit-zeros k) (b .1) (b .3))
+    (made-constant 64 (a .op) (a .mask) (a .source) 0 false _ _ (λ k _. bit-zeros k) (b .1) (b .3))
     in
-    let ones : c .select4 .result ≡ made 8 (a .op) (a .mask) (a .source) 255
+    let ones : c .select4 .result ≡ made 64 (a .op) (a .mask) (a .source) (2 ^ 64 - 1)
     = rw
     (c .select4 .ensures, c .before .select3 .ensures, c .before .before .spread4 .ensures, c .before .before .before .spread3 .ensures)
-    (made-constant (a .op) (a .mask) (a .source) 255 true _ _ bit-ones (b .0) (b .2))
+    (made-constant 64 (a .op) (a .mask) (a .source) (2 ^ 64 - 1) true _ _ (bit-ones 64) (b .0) (b .2))
     in
     (zeros, ap₂ (λ (x y : ℕ). bitXor x y) zeros ones)
 

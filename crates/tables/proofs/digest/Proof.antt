@@ -1,106 +1,110 @@
--- `tables::digest` meets its contract. The loop's invariant: the first k entries of each table are those of the strokes. Assumes nothing.
-use mathlib.Core.Path.{_≡_, refl, ap, _∙_}
-use mathlib.Core.List.{_++_}
-use Prim.Native.Nat.{ℕ, _-_, _≤_}
+-- `tables::digest` meets its contract: four words, each of eight strokes. Assumes nothing.
+use mathlib.Core.Path.{_≡_, refl, ap, sym, _∙_}
+use mathlib.Core.Bool.{Bool, cond}
+use Prim.Native.Nat.{ℕ, _+_, _*_, _%_, _<_}
 use native.Mathlib.Omega.{arith}
-use lib.ListN.{drop}
+use lib.ListN.{getD}
 use borrow.Author.Needs.{needs}
-use Rattle.raster.specs.Pixel.{bit, value}
-use Rattle.span.specs.Fragments.{Fragment, listed}
-use Rattle.span.specs.Strokes.{stroke, enabled}
+use Rattle.raster.specs.Pixel.{bit}
+use Rattle.span.specs.declared.Strokes.{Strokes}
+use Rattle.span.specs.Fragments.{Fragment, stays, paint, byte}
+use Rattle.span.specs.Strokes.{stroke, patternByte}
+use Rattle.span.proofs.Bytes.{byte-zero, bit-byte}
+use Rattle.span.proofs.Patterns.{Holds, pattern-at, stroke-again, stroke-of}
 use Rattle.tables.specs.Reduced.{keeps, flips}
-use Rattle.span.proofs.Listed.{listed-none, listed-set, listed-all}
-use Rattle.tables.proofs.Pattern.{stroke-at}
 use Rattle.tables.proofs.digest.Statement.{statement}
 use Rattle.tables.proofs.digest.Tie as tie
 
-abbrev Inv-loop : tie.InvT-loop
-Inv-loop s phase and₀ xor₀ on₀ k₀ and xor on k =
-    (k ≤ 32) × (and ≡ listed k (λ j. keeps (s .op) (stroke s j)) ++ drop k and₀)
-    × (xor ≡ listed k (λ j. flips (s .op) (stroke s j)) ++ drop k xor₀)
-    × (on ≡ listed k (λ j. value (enabled s j)) ++ drop k on₀)
+-- word g, made of its byte of the enabling bits, holds its eight strokes
+holds : (s : Strokes) (r : Fragment → ℕ) (g bits n : ℕ) → g < 4 → bits ≡ byte (s .enable) g
+    → ((k : ℕ) → k < 8 → byte n k ≡ r (cond (bit bits k) (paint (byte (s .mask) k) (byte (getD (s .source) g 0) k)) stays))
+    → Holds (λ j. r (stroke s j)) g n
+holds s r g bits n l e q k h =
+    q k h
+    ∙ ap r
+    (ap (λ (b : Bool). cond b (paint (byte (s .mask) k) (byte (getD (s .source) g 0) k)) stays)
+    (ap (λ (m : ℕ). bit m k) e ∙ bit-byte (s .enable) g k h)
+    ∙ sym (stroke-of s g k l h))
 
-abbrev μ-loop : tie.MeasureT-loop
-μ-loop s phase and₀ xor₀ on₀ k₀ and xor on k = 32 - k
+cast-masked : tie.Need-cast-masked
+cast-masked c = search needs
 
-cast-phase : tie.Need-cast-phase Inv-loop μ-loop
-cast-phase c = omega arith
+element-copy-out-masked : tie.Need-element-copy-out-masked
+element-copy-out-masked c = search needs
 
-loop-holds : tie.Need-loop-holds Inv-loop μ-loop
-loop-holds c = (omega arith, listed-none _ _, listed-none _ _, listed-none _ _)
+masked-requires : tie.Need-masked-requires
+masked-requires c κs = search needs
 
-add-reduced : tie.Need-add-reduced Inv-loop μ-loop
-add-reduced c = omega arith
+cast-masked-2 : tie.Need-cast-masked-2
+cast-masked-2 c = search needs
 
-element-copy-out-reduced : tie.Need-element-copy-out-reduced Inv-loop μ-loop
-element-copy-out-reduced c = omega arith
+element-copy-out-masked-2 : tie.Need-element-copy-out-masked-2
+element-copy-out-masked-2 c = search needs
 
-element-copy-out-reduced-2 : tie.Need-element-copy-out-reduced-2 Inv-loop μ-loop
-element-copy-out-reduced-2 c = omega arith
+masked-requires-2 : tie.Need-masked-requires-2
+masked-requires-2 c κs = search needs
 
-cast-reduced : tie.Need-cast-reduced Inv-loop μ-loop
-cast-reduced c = omega arith
+cast-masked-3 : tie.Need-cast-masked-3
+cast-masked-3 c = search needs
 
-shr-reduced : tie.Need-shr-reduced Inv-loop μ-loop
-shr-reduced c = omega arith
+element-copy-out-masked-3 : tie.Need-element-copy-out-masked-3
+element-copy-out-masked-3 c = search needs
 
-reduced-requires : tie.Need-reduced-requires Inv-loop μ-loop
-reduced-requires c κs = search needs
+masked-requires-3 : tie.Need-masked-requires-3
+masked-requires-3 c κs = search needs
 
-array-write-and : tie.Need-array-write-and Inv-loop μ-loop
-array-write-and c = omega arith
+cast-masked-4 : tie.Need-cast-masked-4
+cast-masked-4 c = search needs
 
-array-write-xor : tie.Need-array-write-xor Inv-loop μ-loop
-array-write-xor c = omega arith
+element-copy-out-masked-4 : tie.Need-element-copy-out-masked-4
+element-copy-out-masked-4 c = search needs
 
-array-write-on : tie.Need-array-write-on Inv-loop μ-loop
-array-write-on c = omega arith
+masked-requires-4 : tie.Need-masked-requires-4
+masked-requires-4 c κs = search needs
 
-add-k : tie.Need-add-k Inv-loop μ-loop
-add-k c = omega arith
-
-loop-less : tie.Need-loop-less Inv-loop μ-loop
-loop-less c = omega arith
-
-loop-again : tie.Need-loop-again Inv-loop μ-loop
-unfolding bit
-loop-again c =
-    let h = c .before .before .before .before in
-    let s = h .before .args .t1 in
-    let k = h .loop .k in
-    let i = h .loop .inv in
-    let e = c .reduced .ensures in (
-      omega arith,
-      listed-set k _ _ (omega arith) (i .1) (e .0 ∙ ap (λ (x : Fragment). keeps (s .op) x) (stroke-at s k k _ (omega arith) (omega arith))),
-      listed-set k _ _ (omega arith) (i .2) (e .1 ∙ ap (λ (x : Fragment). flips (s .op) x) (stroke-at s k k _ (omega arith) (omega arith))),
-      listed-set k _ _ (omega arith) (i .3) (e .2 ∙ ap (λ (j : ℕ). value (bit (s .enable) j)) (omega arith)),
-    )
-
-returns : tie.Need-returns Inv-loop μ-loop
+returns : tie.Need-returns
+unfolding byte
 returns c =
-    let k = c .before .loop .k in
-    let i = c .before .loop .inv in
-    let done : k ≡ 32 = omega arith in
-    record { and = listed-all 32 k _ _ done refl (i .1); xor = listed-all 32 k _ _ done refl (i .2); on = listed-all 32 k _ _ done refl (i .3) }
+    let s = c .before .before .before .before .before .before .before .before .args .t1 in
+    let w0 = c .before .before .before .before .before .before .masked .ensures in
+    let w1 = c .before .before .before .before .masked2 .ensures in
+    let w2 = c .before .before .masked3 .ensures in
+    let w3 = c .masked4 .ensures in
+    let keeping = keeps (s .op) in
+    let flipping = flips (s .op) in
+    record {
+      and = λ j.
+          pattern-at (λ i. keeping (stroke s i)) _ _ _ _
+          (holds s keeping 0 _ _ (omega arith) (sym (byte-zero (s .enable))) (λ k h. w0 k h .0))
+          (holds s keeping 1 _ _ (omega arith) refl (λ k h. w1 k h .0))
+          (holds s keeping 2 _ _ (omega arith) refl (λ k h. w2 k h .0))
+          (holds s keeping 3 _ _ (omega arith) refl (λ k h. w3 k h .0))
+          j
+          ∙ ap keeping (stroke-again s j);
+      xor = λ j.
+          pattern-at (λ i. flipping (stroke s i)) _ _ _ _
+          (holds s flipping 0 _ _ (omega arith) (sym (byte-zero (s .enable))) (λ k h. w0 k h .1))
+          (holds s flipping 1 _ _ (omega arith) refl (λ k h. w1 k h .1))
+          (holds s flipping 2 _ _ (omega arith) refl (λ k h. w2 k h .1))
+          (holds s flipping 3 _ _ (omega arith) refl (λ k h. w3 k h .1))
+          j
+          ∙ ap flipping (stroke-again s j);
+    }
 
 pub digest-spec : {M : Type 1} → statement M
 digest-spec =
     tie.close
     (tie.spec
-    Inv-loop
-    μ-loop
-    cast-phase
-    loop-holds
-    add-reduced
-    element-copy-out-reduced
-    element-copy-out-reduced-2
-    cast-reduced
-    shr-reduced
-    reduced-requires
-    array-write-and
-    array-write-xor
-    array-write-on
-    add-k
-    loop-less
-    loop-again
+    cast-masked
+    element-copy-out-masked
+    masked-requires
+    cast-masked-2
+    element-copy-out-masked-2
+    masked-requires-2
+    cast-masked-3
+    element-copy-out-masked-3
+    masked-requires-3
+    cast-masked-4
+    element-copy-out-masked-4
+    masked-requires-4
     returns)

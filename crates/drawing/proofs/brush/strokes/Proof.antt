@@ -13,13 +13,10 @@ sources-requires c κs = search needs
 masks-requires : tie.Need-masks-requires
 masks-requires c κs = search needs
 
-cast-phase : tie.Need-cast-phase
-cast-phase c = search needs
-
 returns : tie.Need-returns
 returns c =
-    let a = c .before .before .before .before .args in
-    draws _ _ (effective (a .card)) (planned (a .p) (a .card)) refl refl refl (c .before .masks .ensures) (λ j h. refl) (λ j h. c .before .before .sources .ensures (c .before .before .before .before .pre) j)
+    let a = c .before .before .before .args in
+    draws _ _ (effective (a .card)) (planned (a .p) (a .card)) refl refl (c .masks .ensures) (λ j h. refl) (λ j h. c .before .sources .ensures (c .before .before .before .pre) j)
 
 pub strokes-spec : {M : Type 1} → statement M
-strokes-spec = tie.close (tie.spec sources-requires masks-requires cast-phase returns)
+strokes-spec = tie.close (tie.spec sources-requires masks-requires returns)

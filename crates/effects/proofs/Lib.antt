@@ -1,0 +1,2 @@
+-- The laws of pixels read by words.
+pub mod Pixels

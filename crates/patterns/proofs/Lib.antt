@@ -1,0 +1,3 @@
+-- The laws of the words that a span takes.
+pub mod Held
+pub mod Chosen

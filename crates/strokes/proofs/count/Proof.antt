@@ -1,0 +1,35 @@
+-- `strokes::count` meets its contract: whole turns of the word, and what is left. Assumes nothing.
+use Prim.Native.Nat.{ℕ, _/_, _%_}
+use native.Mathlib.Nat.{mul-le-mul-left}
+use native.Mathlib.Omega.{arith}
+use lib.Count.{ones-le}
+use lib.Pow.{pow-pos}
+use Rattle.raster.specs.Pixel.{bit}
+use Rattle.span.proofs.Counted.{counted-le}
+use Rattle.strokes.proofs.SetBits.{one-shifted, repeated}
+use borrow.Author.Needs.{needs}
+use Rattle.strokes.proofs.count.Statement.{statement}
+use Rattle.strokes.proofs.count.Tie as tie
+
+cast-n : tie.Need-cast-n
+cast-n c = search needs
+
+mul-result : tie.Need-mul-result
+mul-result c = omega (arith, mul-le-mul-left (c .args .n / 32) (ones-le 32 (c .args .enable) (omega arith)))
+
+shl-result : tie.Need-shl-result
+shl-result c = search needs
+
+rem-result : tie.Need-rem-result
+rem-result c = rw (one-shifted (c .args .n % 32) (omega arith)) (pow-pos (c .args .n % 32))
+
+add-result : tie.Need-add-result
+add-result c =
+    let e = repeated (c .args .enable) (c .args .n) (omega arith) in
+    rw (one-shifted (c .args .n % 32) (omega arith)) (omega (arith, e, counted-le (c .args .n) (λ j. bit (c .args .enable) (j % 32))))
+
+returns : tie.Need-returns
+returns c = rw (one-shifted (c .args .n % 32) (omega arith)) (repeated (c .args .enable) (c .args .n) (omega arith))
+
+pub count-spec : {M : Type 1} → statement M
+count-spec = tie.close (tie.spec cast-n mul-result shl-result rem-result add-result returns)

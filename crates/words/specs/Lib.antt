@@ -1,0 +1,2 @@
+-- What the crate `words` means.
+pub mod Words
