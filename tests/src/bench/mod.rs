@@ -8,7 +8,7 @@ mod table;
 mod timing;
 mod traces;
 
-use rows::{TURNS, VRAM};
+use rows::VRAM;
 use timing::ROUNDS;
 
 /// Raster operation and plane mask of each set of rows.
@@ -35,7 +35,7 @@ pub fn bench() -> Result<(), String> {
             table.print_row(&row, &timing::measure(&row)?);
         }
     }
-    println!("\na trace of {TURNS} mixed entries");
+    println!("\na trace of {} mixed entries", traces::ENTRIES);
     table.print_heading();
     for (row, way) in traces::rows() {
         table.print_row(&row, &traces::measure(&row, way)?);

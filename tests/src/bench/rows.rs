@@ -7,14 +7,16 @@ use crate::random::Random;
 /// The VRAM of the demonstration program.
 pub const VRAM: usize = 65_536;
 
-/// Turns in one pass over a row; a turn is one write, or the two of a copy.
-pub const TURNS: usize = 1_000;
+/// Turns in one pass over a row of one kind of write.
+const TURNS: usize = 1_000;
 
 pub struct Row {
     pub name: String,
     /// Register writes, on a card at reset, that set what the row needs.
     pub setting: Vec<Write>,
     pub writes: Vec<Write>,
+    /// Turns in one pass over the writes; a turn is one write, or the two of a copy.
+    pub turns: usize,
     /// The pixels that a turn covers, masked or not, from each of these places on; none for a register write.
     pub pixels: usize,
     pub places: Vec<usize>,
@@ -45,6 +47,7 @@ fn empty_row(setting: &[Write], name: String, pixels: usize) -> Row {
         name,
         setting: setting.to_vec(),
         writes: Vec::new(),
+        turns: TURNS,
         pixels,
         places: Vec::new(),
     }

@@ -1,6 +1,6 @@
 //! How times are shown: as rates or, beside those of another commit's library, as they are.
 
-use super::rows::{Row, TURNS};
+use super::rows::Row;
 use super::timing::Timed::{Copied, Engine, Other, Plain, Set};
 use super::timing::Times;
 
@@ -45,7 +45,7 @@ pub const TIMES: Table = Table {
 };
 
 fn writes(row: &Row, seconds: Option<f64>) -> Option<f64> {
-    let writes = row.writes.len() / TURNS;
+    let writes = row.writes.len() / row.turns;
     seconds.map(|seconds| writes as f64 / seconds / 1e6)
 }
 

@@ -1,7 +1,7 @@
 //! Times of a row: the engine, the other library, the plain implementation, memset and memcpy take turns.
 
 use super::library::{self, OTHER, THIS};
-use super::rows::{Row, TURNS, VRAM};
+use super::rows::{Row, VRAM};
 use super::side::Side;
 use crate::fast;
 use crate::random::Random;
@@ -61,25 +61,25 @@ pub fn measure(row: &Row) -> Result<Times, String> {
     let rounds = std::array::from_fn(|_| {
         // In the order of `Timed`.
         [
-            Some(timed(|| engine.pass(&row.writes))),
+            Some(timed(row.turns, || engine.pass(&row.writes))),
             other
                 .as_mut()
-                .map(|other| timed(|| other.pass(&row.writes))),
-            Some(timed(|| plain.pass(&row.writes))),
-            drawn.then(|| timed(|| set(row, &mut memory))),
-            drawn.then(|| timed(|| copy(row, &mut memory, &picture))),
+                .map(|other| timed(row.turns, || other.pass(&row.writes))),
+            Some(timed(row.turns, || plain.pass(&row.writes))),
+            drawn.then(|| timed(row.turns, || set(row, &mut memory))),
+            drawn.then(|| timed(row.turns, || copy(row, &mut memory, &picture))),
         ]
     });
     Ok(Times { rounds, other_rule })
 }
 
-/// Seconds for each turn, over as many passes as fill a round.
-pub fn timed<T>(mut pass: impl FnMut() -> T) -> f64 {
+/// Seconds for each turn, over as many passes as fill a round; a pass has so many turns.
+pub fn timed<T>(turns_a_pass: usize, mut pass: impl FnMut() -> T) -> f64 {
     let start = processor_time();
     let mut turns = 0;
     loop {
         black_box(pass());
-        turns += TURNS;
+        turns += turns_a_pass;
         let elapsed = processor_time() - start;
         if elapsed >= SECONDS_A_ROUND {
             return elapsed / turns as f64;

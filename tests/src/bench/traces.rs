@@ -1,16 +1,19 @@
 //! A trace of mixed entries from reset: run whole, and read in chunks. The plain implementation makes its writes one by one.
 
 use super::library::{self, OTHER, THIS};
-use super::rows::{Row, TURNS, VRAM};
+use super::rows::{Row, VRAM};
 use super::timing::{timed, Times};
 use crate::damage;
 use crate::engine::card::Card;
 use crate::engine::reader::{fed, Fed, Reader};
 use crate::fast;
 use crate::generate::Maker;
-use crate::model::trace::HEADER;
+use crate::model::trace::{HEADER, MOST_ENTRIES};
 use crate::model::{self, Write};
 use crate::random::Random;
+
+/// The longest trace.
+pub const ENTRIES: usize = MOST_ENTRIES as usize;
 
 #[derive(Clone, Copy)]
 pub enum Way {
@@ -28,12 +31,13 @@ const WAYS: [(&str, Way); 3] = [
 /// The rows, with what each measures. Spans differ from entry to entry, so no pixels are shown.
 pub fn rows() -> impl Iterator<Item = (Row, Way)> {
     let mut maker = Maker::new(Random::of_case(1, 2));
-    let writes = damage::writes(&mut maker, VRAM, TURNS, damage::NEVER);
+    let writes = damage::writes(&mut maker, VRAM, ENTRIES, damage::NEVER);
     WAYS.into_iter().map(move |(name, way)| {
         let row = Row {
             name: String::from(name),
             setting: Vec::new(),
             writes: writes.clone(),
+            turns: ENTRIES,
             pixels: 0,
             places: Vec::new(),
         };
@@ -64,9 +68,9 @@ pub fn measure(row: &Row, way: Way) -> Result<Times, String> {
     let rounds = std::array::from_fn(|_| {
         // In the order of `Timed`.
         [
-            Some(timed(|| engine(&mut vrams[0]))),
-            other.map(|other| timed(|| run(other, &mut vrams[1]))),
-            Some(timed(|| written(&row.writes, &mut vrams[2]))),
+            Some(timed(row.turns, || engine(&mut vrams[0]))),
+            other.map(|other| timed(row.turns, || run(other, &mut vrams[1]))),
+            Some(timed(row.turns, || written(&row.writes, &mut vrams[2]))),
             None,
             None,
         ]
