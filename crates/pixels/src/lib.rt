@@ -25,16 +25,10 @@ pub fn reduce(op: u8, mask: u64, source: u64) -> Reduced
     ensures { λ r. ⌜ (r .xor ≡ made 64 op mask source 0)
         × (r .and ≡ bitXor (made 64 op mask source 0) (made 64 op mask source (2 ^ 64 - 1))) ⌝ }
 {
-    let zeros = words::select(
-        mask,
-        words::select(source, spread(op / 2), spread(op / 8)),
-        0,
-    );
-    let ones = words::select(
-        mask,
-        words::select(source, spread(op), spread(op / 4)),
-        ONES,
-    );
+    let of_zeros = words::select(source, spread(op / 2), spread(op / 8));
+    let of_ones = words::select(source, spread(op), spread(op / 4));
+    let zeros = words::select(mask, of_zeros, 0);
+    let ones = words::select(mask, of_ones, ONES);
     Reduced {
         and: zeros ^ ones,
         xor: zeros,

@@ -19,7 +19,7 @@ unfolding byte
 byte-below n k = omega arith
 
 -- a number of k bytes shifts out of the way of the next
-pub by-eight : (k : ℕ) → 256 ^ k ≡ 2 ^ (8 * k)
+by-eight : (k : ℕ) → 256 ^ k ≡ 2 ^ (8 * k)
 by-eight zero = refl
 by-eight (suc k) =
     pow-succ' 256 k ∙ (ap (λ (x : ℕ). 256 * x) (by-eight k) ∙ (sym (pow-add 2 8 (8 * k)) ∙ ap (λ (e : ℕ). 2 ^ e) (omega arith)))
@@ -52,7 +52,7 @@ byte-xor a b k =
     (ap (λ (n : ℕ). n % 2 ^ 8) (xor-shr a b (8 * k)) ∙ xor-mod (a / 2 ^ (8 * k)) (b / 2 ^ (8 * k)) 8)
 
 -- byte k of a word of n bytes that is made of f
-pub byte-number : (n : ℕ) (f : ℕ → Bool) (k : ℕ) → k < n → byte (number (8 * n) f) k ≡ number 8 (λ i. f (8 * k + i))
+byte-number : (n : ℕ) (f : ℕ → Bool) (k : ℕ) → k < n → byte (number (8 * n) f) k ≡ number 8 (λ i. f (8 * k + i))
 byte-number n f k h =
     same-bits 8 _ _ (byte-below (number (8 * n) f) k) (number-below 8 (λ i. f (8 * k + i)))
     (λ i l. bit-byte (number (8 * n) f) k i l ∙ (bit-number (8 * n) f (8 * k + i) (omega arith) ∙ sym (bit-number 8 (λ j. f (8 * k + j)) i l)))

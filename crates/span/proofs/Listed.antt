@@ -1,12 +1,12 @@
 -- The list of f 0 to f (n - 1), and a loop that fills an array with it, one store a turn: after i turns it is `listed i f ++ drop i xs`.
 -- Assumes nothing.
 use mathlib.Core.Path.{_≡_, refl, ap, ap₂, sym, _∙_}
-use mathlib.Core.List.{List, [], _∷_, _++_, append-nil}
+use mathlib.Core.List.{List, [], _∷_, _++_}
 use Prim.Native.Nat.{ℕ, zero, suc, _+_, _≤_, _<_, suc-le-suc}
 use native.Mathlib.Nat.{le-of-suc-le-suc, not-suc-le-zero, zero-lt-suc}
 use native.Mathlib.Numerals.{add-one}
 use native.Mathlib.Omega.{arith}
-use lib.ListN.{length, getD, take, drop, set, length-drop, drop-of-length-le}
+use lib.ListN.{length, getD, take, drop, set, length-drop}
 use lib.Seq.{ext-getD, length-take-le, getD-take, getD-drop}
 use Rattle.span.specs.Fragments.{listed}
 
@@ -15,7 +15,7 @@ unfolding listed
 listed-length zero f = refl
 listed-length (suc n) f = ap suc (listed-length n (λ k. f (suc k)))
 
-pub listed-at : (n : ℕ) (f : ℕ → ℕ) (i : ℕ) → i < n → getD (listed n f) i 0 ≡ f i
+listed-at : (n : ℕ) (f : ℕ → ℕ) (i : ℕ) → i < n → getD (listed n f) i 0 ≡ f i
 unfolding listed
 listed-at zero f i h = absurd (not-suc-le-zero h)
 listed-at (suc n) f zero h = refl
@@ -37,13 +37,6 @@ pub listed-set : (i : ℕ) (f : ℕ → ℕ) (xs : List ℕ) {ys : List ℕ} {y 
     → set ys i y ≡ listed (i + 1) f ++ drop (i + 1) xs
 listed-set i f xs h e q =
     ap₂ (λ (l : List ℕ) (n : ℕ). set l i n) e q ∙ rw add-one (set-suc i f xs h)
-
--- with all stored it is the list
-pub listed-all : (n i : ℕ) (f : ℕ → ℕ) (xs : List ℕ) {ys : List ℕ} → i ≡ n → length xs ≡ n → ys ≡ listed i f ++ drop i xs → ys ≡ listed n f
-listed-all n i f xs e l q =
-    q
-    ∙ (ap (λ (m : ℕ). listed m f ++ drop m xs) e
-    ∙ (ap (λ (t : List ℕ). listed n f ++ t) (drop-of-length-le xs {i = n} (omega arith)) ∙ append-nil (listed n f)))
 
 -- two functions that agree below n list the same
 pub listed-same : (n : ℕ) {f g : ℕ → ℕ} → ((k : ℕ) → k < n → f k ≡ g k) → listed n f ≡ listed n g

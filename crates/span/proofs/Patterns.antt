@@ -8,7 +8,7 @@ use lib.ListN.{getD}
 use lib.Pow.{field}
 use Rattle.raster.specs.Pixel.{bit}
 use Rattle.span.specs.declared.Strokes.{Strokes}
-use Rattle.span.specs.Fragments.{Fragment, stays, paint, byte}
+use Rattle.span.specs.Fragments.{stays, paint, byte}
 use Rattle.span.specs.Strokes.{stroke, patternByte}
 
 -- what holds of each of four holds at each index

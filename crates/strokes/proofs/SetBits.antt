@@ -1,6 +1,5 @@
 -- Enabled pixels counted by the set bits of a word that repeats. Assumes nothing.
 use mathlib.Core.Path.{_≡_, refl, ap, ap₂, sym, _∙_}
-use mathlib.Core.Bool.{Bool, true, false}
 use Prim.Native.Nat.{ℕ, zero, suc, _+_, _*_, _/_, _%_, _^_, _<_, _≤_}
 use native.Mathlib.Nat.{mod-one, mod-lt, one-mul, add-comm, zero-mul, suc-mul, mod-eq-of-lt}
 use native.Mathlib.Omega.{arith}
@@ -21,7 +20,7 @@ below : (x k : ℕ) → x % 2 ^ k < 2 ^ k
 below x k = mod-lt x (pow-pos k)
 
 -- the set bits among the lowest r
-pub ones-counted : (x r : ℕ) → ones (x % 2 ^ r) ≡ counted r (bit x)
+ones-counted : (x r : ℕ) → ones (x % 2 ^ r) ≡ counted r (bit x)
 unfolding counted bit ones
 ones-counted x zero = ap ones (mod-one x)
 ones-counted x (suc r) =

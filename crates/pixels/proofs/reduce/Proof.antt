@@ -20,14 +20,14 @@ spread-requires-2 c κs = search needs
 select-requires : tie.Need-select-requires
 select-requires c κs = search needs
 
-select-requires-2 : tie.Need-select-requires-2
-select-requires-2 c κs = search needs
-
 spread-requires-3 : tie.Need-spread-requires-3
 spread-requires-3 c κs = search needs
 
 spread-requires-4 : tie.Need-spread-requires-4
 spread-requires-4 c κs = search needs
+
+select-requires-2 : tie.Need-select-requires-2
+select-requires-2 c κs = search needs
 
 select-requires-3 : tie.Need-select-requires-3
 select-requires-3 c κs = search needs
@@ -39,9 +39,9 @@ returns : tie.Need-returns
 returns c =
     let a = c .before .before .before .before .before .before .before .before .args in
     let b = result-bits (a .op) in
-    let zeros : c .before .before .before .before .select2 .result ≡ made 64 (a .op) (a .mask) (a .source) 0
+    let zeros : c .before .select3 .result ≡ made 64 (a .op) (a .mask) (a .source) 0
     = rw (
-      c .before .before .before .before .select2 .ensures,
+      c .before .select3 .ensures,
       c .before .before .before .before .before .select .ensures,
       c .before .before .before .before .before .before .spread2 .ensures,
       c .before .before .before .before .before .before .before .spread .ensures,
@@ -50,7 +50,7 @@ returns c =
     in
     let ones : c .select4 .result ≡ made 64 (a .op) (a .mask) (a .source) (2 ^ 64 - 1)
     = rw
-    (c .select4 .ensures, c .before .select3 .ensures, c .before .before .spread4 .ensures, c .before .before .before .spread3 .ensures)
+    (c .select4 .ensures, c .before .before .select2 .ensures, c .before .before .before .spread4 .ensures, c .before .before .before .before .spread3 .ensures)
     (made-constant 64 (a .op) (a .mask) (a .source) (2 ^ 64 - 1) true _ _ (bit-ones 64) (b .0) (b .2))
     in
     (zeros, ap₂ (λ (x y : ℕ). bitXor x y) zeros ones)
@@ -62,9 +62,9 @@ reduce-spec =
     spread-requires
     spread-requires-2
     select-requires
-    select-requires-2
     spread-requires-3
     spread-requires-4
+    select-requires-2
     select-requires-3
     select-requires-4
     returns)

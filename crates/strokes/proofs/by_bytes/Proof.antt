@@ -1,10 +1,9 @@
 -- `strokes::by_bytes` meets its contract. The loop's invariant: the pixels before j are drawn. Assumes nothing.
-use mathlib.Core.Path.{_≡_, refl, ap, sym, _∙_}
+use mathlib.Core.Path.{_≡_, refl, ap, _∙_}
 use mathlib.Core.List.{List}
-use Prim.Native.Nat.{ℕ, _+_, _-_, _*_, _%_, _≤_, _<_}
+use Prim.Native.Nat.{ℕ, _-_, _%_, _≤_, _<_}
 use native.Mathlib.Omega.{arith}
 use lib.ListN.{length, length-set}
-use borrow.Author.Needs.{needs}
 use Rattle.span.specs.Fragments.{Fragment, drawn, before, byte}
 use Rattle.span.proofs.Bytes.{byte-shifted}
 use Rattle.tables.specs.Reduced.{keeps, flips}

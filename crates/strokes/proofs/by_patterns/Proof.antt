@@ -1,11 +1,9 @@
 -- `strokes::by_patterns` meets its contract. The loop's invariant: the pattern is drawn i times. Assumes nothing.
 use mathlib.Core.Path.{_≡_, refl, ap, sym, _∙_}
-use mathlib.Core.List.{List}
-use Prim.Native.Nat.{ℕ, _+_, _-_, _*_, _%_, _≤_, _<_}
+use Prim.Native.Nat.{ℕ, _+_, _-_, _*_, _≤_}
 use native.Mathlib.Omega.{arith}
 use denote.Ref.{now}
 use lib.ListN.{length}
-use borrow.Author.Needs.{needs}
 use Rattle.span.specs.Fragments.{Fragment, drawn, before}
 use Rattle.tables.specs.Reduced.{Makes}
 use Rattle.span.proofs.Painted.{before-past}

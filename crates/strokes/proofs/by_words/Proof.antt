@@ -1,10 +1,9 @@
 -- `strokes::by_words` meets its contract. The loop's invariant: the words before g are drawn. Assumes nothing.
-use mathlib.Core.Path.{_≡_, refl, ap, sym, _∙_}
+use mathlib.Core.Path.{_≡_, refl, ap, _∙_}
 use mathlib.Core.List.{List}
 use Prim.Native.Nat.{ℕ, _+_, _-_, _*_, _%_, _≤_, _<_}
 use native.Mathlib.Omega.{arith}
 use lib.ListN.{length, getD}
-use borrow.Author.Needs.{needs}
 use Rattle.span.specs.Fragments.{Fragment, drawn, before}
 use Rattle.tables.specs.Reduced.{Makes}
 use Rattle.strokes.proofs.Turns.{word-turn, as-long}

@@ -1,5 +1,5 @@
 -- `strokes::count` meets its contract: whole turns of the word, and what is left. Assumes nothing.
-use Prim.Native.Nat.{ℕ, _/_, _%_}
+use Prim.Native.Nat.{_/_, _%_}
 use native.Mathlib.Nat.{mul-le-mul-left}
 use native.Mathlib.Omega.{arith}
 use lib.Count.{ones-le}

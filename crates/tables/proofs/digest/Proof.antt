@@ -1,14 +1,14 @@
 -- `tables::digest` meets its contract: four words, each of eight strokes. Assumes nothing.
 use mathlib.Core.Path.{_≡_, refl, ap, sym, _∙_}
 use mathlib.Core.Bool.{Bool, cond}
-use Prim.Native.Nat.{ℕ, _+_, _*_, _%_, _<_}
+use Prim.Native.Nat.{ℕ, _<_}
 use native.Mathlib.Omega.{arith}
 use lib.ListN.{getD}
 use borrow.Author.Needs.{needs}
 use Rattle.raster.specs.Pixel.{bit}
 use Rattle.span.specs.declared.Strokes.{Strokes}
 use Rattle.span.specs.Fragments.{Fragment, stays, paint, byte}
-use Rattle.span.specs.Strokes.{stroke, patternByte}
+use Rattle.span.specs.Strokes.{stroke}
 use Rattle.span.proofs.Bytes.{byte-zero, bit-byte}
 use Rattle.span.proofs.Patterns.{Holds, pattern-at, stroke-again, stroke-of}
 use Rattle.tables.specs.Reduced.{keeps, flips}
