@@ -23,7 +23,7 @@ fn sources(p: Paint, buffer: [u8; 64]) -> [u64; 4]
             at,
         } => patterns::stippled(bits, foreground, background, at),
         Paint::Tiled { low, high, at } => patterns::tiled(low, high, at),
-        Paint::Half => patterns::half(buffer, 0),
+        Paint::Half => strokes::buffer::half(buffer, 0),
         Paint::Whole => [0u64; 4],
     }
 }
@@ -52,7 +52,7 @@ pub(crate) fn half_strokes(p: Plan, card: Card, k: usize) -> Strokes
     ensures { λ r. ⌜ Draws r (p .op) (effective card) (piece k 32 (planned p card)) ⌝ }
 {
     let buffer = card.copier.buffer;
-    let source = patterns::half(buffer, k);
+    let source = strokes::buffer::half(buffer, k);
     let mask = patterns::masks(card.registers.plane, card.held, p.first);
     Strokes {
         op: p.op,

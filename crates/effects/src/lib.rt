@@ -10,8 +10,7 @@ use card::ONES;
 use card::SET;
 use card::Write;
 use plan::Effect;
-
-mod copy;
+use strokes::buffer;
 
 // The pixel mask after a frame write: a one-shot one is used up.
 fn used_up(mask: Mask) -> u32
@@ -37,7 +36,7 @@ pub fn left(effect: Effect, card: Card, w: Write, vram: &[u8]) -> Card
         }
         Effect::ReadsSource => {
             let buffer = card.copier.buffer;
-            let read = copy::source(vram, w.address, w.data, buffer);
+            let read = buffer::source(vram, w.address, w.data, buffer);
             let copier = Copier {
                 buffer: read,
                 loaded: CLEAR,
@@ -59,7 +58,7 @@ pub fn left(effect: Effect, card: Card, w: Write, vram: &[u8]) -> Card
         Effect::Stores { register, value } => storing::store(card, register, value),
         Effect::Loads => {
             let buffer = card.copier.buffer;
-            let read = copy::load(vram, w.data, buffer);
+            let read = buffer::load(vram, w.data, buffer);
             let copier = Copier {
                 buffer: read,
                 loaded: SET,

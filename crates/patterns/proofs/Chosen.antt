@@ -1,18 +1,16 @@
--- One of the four words of a pattern: chosen by bits, turned, or loaded. Assumes nothing.
+-- One of the four words of a pattern: chosen by bits, or turned. Assumes nothing.
 use mathlib.Core.Path.{_≡_, ap, _∙_}
 use mathlib.Core.Bool.{Bool, true, false, cond}
-use mathlib.Core.List.{List, [], _∷_}
+use mathlib.Core.List.{[], _∷_}
 use Prim.Native.Nat.{ℕ, _+_, _*_, _/_, _%_, _<_}
 use native.Mathlib.Omega.{arith}
 use lib.ListN.{getD}
 use Rattle.raster.specs.Pixel.{bit, number}
 use Rattle.raster.proofs.Below.{bit-zeros}
 use Rattle.raster.proofs.Bits.{bit-number, same-bits, bit-ones}
-use Rattle.span.specs.Fragments.{byte, listed}
+use Rattle.span.specs.Fragments.{byte}
 use Rattle.span.proofs.Bytes.{bit-byte, byte-below}
 use Rattle.span.proofs.Patterns.{Holds}
-use Rattle.words.specs.Words.{joined}
-use Rattle.words.proofs.Joined.{byte-joined}
 
 -- a selection by bytes of ones and zeros picks bytes
 picked : (wide x y k : ℕ) (b : Bool) → k < 8 → byte wide k ≡ cond b 255 0
@@ -53,11 +51,3 @@ turned-pair low high at w r ew er j =
     er (j % 8) (omega arith)
     ∙ (ap (λ (t : ℕ). byte w t) p
     ∙ (ew ((at + j) % 8) (omega arith) ∙ ap (λ (t : ℕ). byte (getD (low ∷ high ∷ []) ((at + j) % 8 / 4) 0) t) q))
-
--- word g, loaded from bytes
-pub loaded-word : (v : List ℕ) (at start g n : ℕ) → ((i : ℕ) → getD v i 0 < 256) → start ≡ at + 8 * g → n ≡ joined (listed 8 (λ k. getD v (start + k) 0))
-    → Holds (λ j. getD v (at + j) 0) g n
-loaded-word v at start g n below es e k h =
-    let p : start + k ≡ at + (8 * g + k) = omega arith in
-    ap (λ (m : ℕ). byte m k) e
-    ∙ (byte-joined 8 (λ j. getD v (start + j) 0) (λ j _. below (start + j)) k h ∙ ap (λ (i : ℕ). getD v i 0) p)

@@ -2,7 +2,7 @@
 ghost use mathlib.Core.Path.{_≡_};
 ghost use mathlib.Core.Bool.{cond};
 ghost use mathlib.Core.List.{[], _∷_};
-ghost use Prim.Native.Nat.{ℕ, _+_, _/_, _%_, _≤_};
+ghost use Prim.Native.Nat.{ℕ, _+_, _/_, _%_};
 ghost use lib.ListN.{getD};
 ghost use Rattle.raster.specs.Pixel.{bit};
 ghost use Rattle.span.specs.Fragments.{byte};
@@ -54,16 +54,4 @@ pub fn tiled(low: u32, high: u32, at: usize) -> [u64; 4]
 {
     let w = words::turned(words::pair(low, high), at);
     [w, w, w, w]
-}
-
-// Half of the copy buffer, from a place on.
-pub fn half(buffer: [u8; 64], at: usize) -> [u64; 4]
-    requires { ⌜ at ≤ 32 ⌝ }
-    ensures { λ r. ⌜ ((j : ℕ) → patternByte r j ≡ getD buffer (at + j % 32) 0) ⌝ }
-{
-    let a = words::load(&buffer, at);
-    let b = words::load(&buffer, at + 8);
-    let c = words::load(&buffer, at + 16);
-    let d = words::load(&buffer, at + 24);
-    [a, b, c, d]
 }

@@ -1,3 +1,6 @@
--- Turns of the loops over words and bytes, and the pixels counted.
+-- Words in memory; turns of the loops over words and bytes; the pixels counted; the copy buffer by words.
+pub mod Joined
+pub mod Stored
 pub mod Turns
 pub mod SetBits
+pub mod Buffers

@@ -12,9 +12,9 @@ use Rattle.span.specs.Fragments.{Fragment, painted, drawn, before, byte, listed
 use Rattle.span.proofs.Bytes.{byte-and, byte-xor}
 use Rattle.span.proofs.Drawn.{drawn-is, drawn-at, drawn-length, drawn-kept, drawn-before-step}
 use Rattle.span.proofs.Painted.{before-below, before-past, before-same}
-use Rattle.words.specs.Words.{joined}
-use Rattle.words.proofs.Joined.{byte-joined}
-use Rattle.words.proofs.Stored.{sets-inside, sets-outside}
+use Rattle.strokes.specs.Words.{joined}
+use Rattle.strokes.proofs.Joined.{byte-joined}
+use Rattle.strokes.proofs.Stored.{sets-inside, sets-outside}
 use Rattle.tables.specs.declared.Table.{Table}
 use Rattle.tables.specs.Reduced.{keeps, flips, Makes}
 use Rattle.tables.proofs.Reducing.{reduced-painted}

@@ -14,6 +14,9 @@ use span::Strokes;
 use span::Tally;
 use tables::Table;
 
+pub mod buffer;
+mod memory;
+
 // ---- Pixels drawn.
 
 // Eight pixels from `at` on: one load and one store.
@@ -22,8 +25,8 @@ fn word(part: &mut [u8], at: usize, and: u64, xor: u64)
     ensures { λ _. ⌜ now (part .exit) ≡ sets (now (part .entry)) at (listed 8 (λ k.
         bitXor (bitAnd (getD (now (part .entry)) (at + k) 0) (byte and k)) (byte xor k))) ⌝ }
 {
-    let old = words::load(part, at);
-    words::store(part, at, (old & and) ^ xor);
+    let old = memory::load(part, at);
+    memory::store(part, at, (old & and) ^ xor);
 }
 
 // The whole pattern from `at` on, which is a multiple of 32. The compiler draws sixteen pixels at once where the processor can.

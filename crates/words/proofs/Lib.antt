@@ -1,5 +1,3 @@
 -- The laws of words of eight pixels.
-pub mod Joined
-pub mod Stored
 pub mod Spread
 pub mod Rotation

@@ -1,6 +1,6 @@
 -- `drawing::brush::half_strokes` meets its contract. Assumes nothing.
 use mathlib.Core.Path.{_≡_, refl, ap, sym, _∙_}
-use Prim.Native.Nat.{ℕ, _+_, _%_}
+use Prim.Native.Nat.{ℕ, _+_, _*_, _/_, _%_}
 use native.Mathlib.Omega.{arith}
 use lib.ListN.{getD}
 use Rattle.raster.specs.Pixel.{bit}
@@ -29,9 +29,9 @@ returns c =
     c .masks .ensures j ∙ mask-again (a .card .registers .plane) (a .card .held) _ _ e)
     (λ j h. let e : j % 32 ≡ (a .k + j) % 32 = omega (arith, q) in ap (λ (i : ℕ). bit (a .p .enable) i) e)
     (λ j h.
-    let e : j % 32 ≡ j = omega arith in
+    let e : a .k / 32 % 2 * 32 + j % 32 ≡ a .k + j = omega (arith, q) in
     c .before .half .ensures j
-    ∙ (ap (λ (i : ℕ). getD (a .card .copier .buffer) (a .k + i) 0) e ∙ sym (whole-takes (a .p .paint) (a .card .copier .buffer) (a .k + j) (q .0))))
+    ∙ (ap (λ (i : ℕ). getD (a .card .copier .buffer) i 0) e ∙ sym (whole-takes (a .p .paint) (a .card .copier .buffer) (a .k + j) (q .0))))
 
 pub half-strokes-spec : {M : Type 1} → statement M
 half-strokes-spec = tie.close (tie.spec half-requires masks-requires returns)

@@ -1,10 +1,10 @@
--- `words::store` meets its contract: eight stores are a run. Assumes nothing.
+-- `strokes::memory::store` meets its contract: eight stores are a run. Assumes nothing.
 use native.Mathlib.Omega.{arith}
 use lib.ListN.{length-set}
-use Rattle.words.proofs.Stored.{put-eight}
+use Rattle.strokes.proofs.Stored.{put-eight}
 use borrow.Author.Needs.{needs}
-use Rattle.words.proofs.store.Statement.{statement}
-use Rattle.words.proofs.store.Tie as tie
+use Rattle.strokes.proofs.memory.store.Statement.{statement}
+use Rattle.strokes.proofs.memory.store.Tie as tie
 
 cast-p : tie.Need-cast-p
 cast-p c = search needs

@@ -1,9 +1,9 @@
--- `words::load` meets its contract. Assumes nothing.
+-- `strokes::memory::load` meets its contract. Assumes nothing.
 use native.Mathlib.Nat.{add-zero}
 use Rattle.span.specs.Fragments.{listed}
 use borrow.Author.Needs.{needs}
-use Rattle.words.proofs.load.Statement.{statement}
-use Rattle.words.proofs.load.Tie as tie
+use Rattle.strokes.proofs.memory.load.Statement.{statement}
+use Rattle.strokes.proofs.memory.load.Tie as tie
 
 shared-slice-read-join : tie.Need-shared-slice-read-join
 shared-slice-read-join c = search needs

@@ -1,4 +1,4 @@
--- `effects::copy::load` meets its contract. Assumes nothing.
+-- `strokes::buffer::load` meets its contract. Assumes nothing.
 use mathlib.Core.Path.{_≡_, ap, ap₂, _∙_}
 use mathlib.Core.Bool.{Bool, cond}
 use mathlib.Core.List.{List, [], _++_, append-nil}
@@ -9,8 +9,8 @@ use Rattle.raster.proofs.Bits.{bit-ones}
 use Rattle.span.proofs.Listed.{listed-same, listed-part}
 use borrow.Author.Tests.{le-leb, lt-leb}
 use borrow.Author.Needs.{needs}
-use Rattle.effects.proofs.copy.load.Statement.{statement}
-use Rattle.effects.proofs.copy.load.Tie as tie
+use Rattle.strokes.proofs.buffer.load.Statement.{statement}
+use Rattle.strokes.proofs.buffer.load.Tie as tie
 
 add-if1 : tie.Need-add-if1
 add-if1 c = search needs

@@ -1,9 +1,9 @@
--- `words::join` meets its contract. Assumes nothing.
+-- `strokes::memory::join` meets its contract. Assumes nothing.
 use native.Mathlib.Omega.{arith}
-use Rattle.words.specs.Words.{joined}
+use Rattle.strokes.specs.Words.{joined}
 use borrow.Author.Needs.{needs}
-use Rattle.words.proofs.join.Statement.{statement}
-use Rattle.words.proofs.join.Tie as tie
+use Rattle.strokes.proofs.memory.join.Statement.{statement}
+use Rattle.strokes.proofs.memory.join.Tie as tie
 
 mul-result : tie.Need-mul-result
 mul-result c = search needs

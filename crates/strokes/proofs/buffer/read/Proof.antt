@@ -1,4 +1,4 @@
--- `effects::copy::read` meets its contract. The loop's invariant: the first k words are read. Assumes nothing.
+-- `strokes::buffer::read` meets its contract. The loop's invariant: the first k words are read. Assumes nothing.
 use mathlib.Core.Path.{_≡_, refl, ap, sym, _∙_}
 use mathlib.Core.Bool.{cond}
 use mathlib.Core.List.{_++_}
@@ -11,10 +11,10 @@ use borrow.Author.Needs.{needs}
 use Rattle.raster.specs.Pixel.{bit}
 use Rattle.span.specs.Fragments.{byte, listed}
 use Rattle.span.proofs.Listed.{listed-none}
-use Rattle.words.proofs.Stored.{stored-listed}
-use Rattle.effects.proofs.Pixels.{read-byte}
-use Rattle.effects.proofs.copy.read.Statement.{statement}
-use Rattle.effects.proofs.copy.read.Tie as tie
+use Rattle.strokes.proofs.Stored.{stored-listed}
+use Rattle.strokes.proofs.Buffers.{read-byte}
+use Rattle.strokes.proofs.buffer.read.Statement.{statement}
+use Rattle.strokes.proofs.buffer.read.Tie as tie
 
 abbrev Inv-loop : tie.InvT-loop
 Inv-loop vram at n bits next₀ k₀ next k =

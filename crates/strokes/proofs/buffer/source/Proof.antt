@@ -1,4 +1,4 @@
--- `effects::copy::source` meets its contract. Assumes nothing.
+-- `strokes::buffer::source` meets its contract. Assumes nothing.
 use mathlib.Core.Path.{_≡_, ap, _∙_}
 use mathlib.Core.Bool.{cond}
 use mathlib.Core.List.{List, _++_}
@@ -9,8 +9,8 @@ use Rattle.raster.specs.Pixel.{bit}
 use Rattle.span.proofs.Listed.{listed-same}
 use borrow.Author.Tests.{le-leb, lt-leb}
 use borrow.Author.Needs.{needs}
-use Rattle.effects.proofs.copy.source.Statement.{statement}
-use Rattle.effects.proofs.copy.source.Tie as tie
+use Rattle.strokes.proofs.buffer.source.Statement.{statement}
+use Rattle.strokes.proofs.buffer.source.Tie as tie
 
 add-if1 : tie.Need-add-if1
 add-if1 c = search needs

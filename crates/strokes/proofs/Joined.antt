@@ -5,7 +5,7 @@ use native.Mathlib.Nat.{le-of-suc-le-suc, not-suc-le-zero, zero-lt-suc, pow-succ
 use native.Mathlib.Omega.{arith}
 use Rattle.span.specs.Fragments.{byte, listed}
 use Rattle.span.proofs.Bytes.{byte-zero}
-use Rattle.words.specs.Words.{joined}
+use Rattle.strokes.specs.Words.{joined}
 
 byte-suc : (n k : ℕ) → byte n (suc k) ≡ byte (n / 256) k
 unfolding byte

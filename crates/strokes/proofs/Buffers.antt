@@ -1,4 +1,4 @@
--- A word of pixels read under the bits that enable them. Assumes nothing but bytes.
+-- Words of pixels read, and read under the bits that enable them. Both assume bytes.
 use mathlib.Core.Path.{_≡_, ap, ap₂, _∙_}
 use mathlib.Core.Bool.{Bool, true, false, cond}
 use mathlib.Core.List.{List}
@@ -8,9 +8,10 @@ use lib.Bits.{bitAnd, and-mask, and-zero-r}
 use lib.ListN.{getD}
 use Rattle.raster.specs.Pixel.{bit}
 use Rattle.span.specs.Fragments.{byte, listed}
+use Rattle.span.proofs.Patterns.{Holds}
 use Rattle.span.proofs.Bytes.{bit-byte, byte-and, byte-shifted}
-use Rattle.words.specs.Words.{joined}
-use Rattle.words.proofs.Joined.{byte-joined}
+use Rattle.strokes.specs.Words.{joined}
+use Rattle.strokes.proofs.Joined.{byte-joined}
 
 -- a byte under all ones or under none
 kept : (n : ℕ) (b : Bool) → n < 256 → bitAnd n (cond b 255 0) ≡ cond b n 0
@@ -34,3 +35,11 @@ read-byte v at k bits x old wide i below h ex ew eo =
     ∙ ap₂ (λ (b : Bool) (n : ℕ). cond b (getD v n 0) 0)
     (ap (λ (n : ℕ). bit n i) (ex ∙ byte-shifted bits (k % 4)) ∙ (bit-byte bits (k % 4) i h ∙ ap (λ (n : ℕ). bit bits n) p))
     q))
+
+-- word g, loaded from bytes
+pub loaded-word : (v : List ℕ) (at start g n : ℕ) → ((i : ℕ) → getD v i 0 < 256) → start ≡ at + 8 * g → n ≡ joined (listed 8 (λ k. getD v (start + k) 0))
+    → Holds (λ j. getD v (at + j) 0) g n
+loaded-word v at start g n below es e k h =
+    let p : start + k ≡ at + (8 * g + k) = omega arith in
+    ap (λ (m : ℕ). byte m k) e
+    ∙ (byte-joined 8 (λ j. getD v (start + j) 0) (λ j _. below (start + j)) k h ∙ ap (λ (i : ℕ). getD v i 0) p)

@@ -1,2 +1,0 @@
--- The laws of pixels read by words.
-pub mod Pixels

@@ -1,0 +1,2 @@
+-- Words in the span routine's contracts.
+pub mod Words

@@ -1,2 +1,0 @@
--- What the crate `words` means.
-pub mod Words
