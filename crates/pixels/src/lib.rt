@@ -11,7 +11,7 @@ pub struct Reduced {
 }
 
 // All 64 bits.
-pub const ONES: u64 = 0xFFFF_FFFF_FFFF_FFFF;
+const ONES: u64 = 0xFFFF_FFFF_FFFF_FFFF;
 
 // All ones where n is odd, else 0.
 fn spread(n: u8) -> u64
@@ -20,7 +20,7 @@ fn spread(n: u8) -> u64
     (n % 2) as u64 * ONES
 }
 
-// The two words that settle every old word: what an old word of zeros becomes, and where an old word of ones becomes another.
+// The two words that settle every old word: what an old word of zeros becomes, and the bits in which one of ones comes out otherwise.
 pub fn reduce(op: u8, mask: u64, source: u64) -> Reduced
     ensures { λ r. ⌜ (r .xor ≡ made 64 op mask source 0)
         × (r .and ≡ bitXor (made 64 op mask source 0) (made 64 op mask source (2 ^ 64 - 1))) ⌝ }

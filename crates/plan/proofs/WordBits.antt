@@ -7,8 +7,7 @@ use native.Mathlib.Omega.{arith}
 use lib.Bits.{bitAnd}
 use lib.Pow.{high, low}
 use Rattle.raster.specs.Pixel.{bit}
-use Rattle.raster.proofs.Below.{all-below, is-true}
-use Rattle.raster.proofs.Bits.{bit-number, bit-low, bit-high, number-below, same-bits}
+use Rattle.raster.proofs.Bits.{bit-number, bit-low, bit-high, number-below, same-bits, bit-ones}
 use Rattle.raster.proofs.Bitwise.{bit-and}
 use Rattle.plan.specs.Plan.{rotated}
 
@@ -18,8 +17,7 @@ first-turn x j h = let e : j % 32 ≡ j = omega arith in ap (λ (k : ℕ). bit x
 
 -- every bit of a word of ones is set
 pub bit-word : (j : ℕ) → bit 4294967295 (j % 32) ≡ true
-unfolding bit
-bit-word j = is-true _ (all-below 32 (bit 4294967295) tt (j % 32) (omega arith))
+bit-word j = bit-ones 32 (j % 32) (omega arith)
 
 both : (a b : Bool) → cond a b false ≡ a && b
 both true b = refl

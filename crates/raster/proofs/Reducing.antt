@@ -1,5 +1,5 @@
 -- A raster operation reduced to two numbers, over any width: what settles an old pixel of zeros and one of ones settles every old pixel.
--- `reduced-made` assumes that the old pixel has that width.
+-- `reduced-made` assumes that the old pixel has that width, `selected` that its three numbers have it.
 use mathlib.Core.Path.{_≡_, refl, _∙_}
 use mathlib.Core.Bool.{Bool, true, false, cond, not}
 use Prim.Native.Nat.{ℕ, _-_, _/_, _^_, _<_}

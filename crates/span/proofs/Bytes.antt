@@ -1,4 +1,4 @@
--- The bytes of a number: what is done to a word bit by bit is done to each of its bytes. Over any number of bytes. Assumes nothing.
+-- The bytes of a number: what is done to a word bit by bit is done to each of its bytes. Over any number of bytes. `byte-past` assumes a number of so many bytes.
 use mathlib.Core.Path.{_≡_, refl, ap, sym, _∙_}
 use mathlib.Core.Bool.{Bool}
 use Prim.Native.Nat.{ℕ, zero, suc, _+_, _-_, _*_, _/_, _%_, _^_, _<_}
@@ -18,7 +18,7 @@ pub byte-below : (n k : ℕ) → byte n k < 256
 unfolding byte
 byte-below n k = omega arith
 
--- a number of k bytes shifts out of the way of the next
+-- k bytes are 8 k bits
 by-eight : (k : ℕ) → 256 ^ k ≡ 2 ^ (8 * k)
 by-eight zero = refl
 by-eight (suc k) =

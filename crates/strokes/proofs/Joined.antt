@@ -1,4 +1,4 @@
--- Bytes joined to a word, and its bytes again. Assumes nothing.
+-- Bytes joined to a word, and its bytes again. `byte-joined` assumes bytes.
 use mathlib.Core.Path.{_≡_, ap, sym, _∙_}
 use Prim.Native.Nat.{ℕ, zero, suc, _+_, _*_, _/_, _%_, _^_, _<_, suc-le-suc}
 use native.Mathlib.Nat.{le-of-suc-le-suc, not-suc-le-zero, zero-lt-suc, pow-succ', div-div-eq-div-mul}

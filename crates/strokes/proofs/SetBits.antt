@@ -1,4 +1,4 @@
--- Enabled pixels counted by the set bits of a word that repeats. Assumes nothing.
+-- Enabled pixels counted by the set bits of a word that repeats. `repeated` assumes a word of 32 bits.
 use mathlib.Core.Path.{_≡_, refl, ap, ap₂, sym, _∙_}
 use Prim.Native.Nat.{ℕ, zero, suc, _+_, _*_, _/_, _%_, _^_, _<_, _≤_}
 use native.Mathlib.Nat.{mod-one, mod-lt, one-mul, add-comm, zero-mul, suc-mul, mod-eq-of-lt}

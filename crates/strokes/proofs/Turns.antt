@@ -1,4 +1,4 @@
--- Turns of the span routine: a word or a byte is drawn by its entry of the table. Assumes nothing.
+-- Turns of the span routine: a word or a byte is drawn by its entry of the table. `word-byte`, `word-turn` and `byte-turn` assume bytes.
 use mathlib.Core.Path.{_≡_, ap, ap₂, sym, _∙_}
 use mathlib.Core.Logic.{inl, inr}
 use mathlib.Core.List.{List}

@@ -54,7 +54,7 @@ fn by_patterns(part: &mut [u8], n: usize, t: Table)
     }
 }
 
-// Words `start` to n.
+// Words `start` to n - 1.
 fn by_words(part: &mut [u8], start: usize, n: usize, t: Table)
     requires { ⌜ (start ≤ n) × (8 * n ≤ length (now part)) ⌝ }
     ensures { λ _. ⌜ ((op : ℕ) (f : ℕ → Fragment) → Makes t op f → (v : List ℕ)

@@ -1,4 +1,4 @@
--- The bits of a byte spread over a word, and two registers side by side. Assumes nothing.
+-- The bits of a byte spread over a word, and two registers side by side. `widened` assumes a byte, `paired` a low register of 32 bits.
 use mathlib.Core.Path.{_≡_, ap, ap₂, sym, _∙_}
 use mathlib.Core.Bool.{Bool, cond}
 use mathlib.Core.List.{[], _∷_}

@@ -60,8 +60,8 @@ returns c =
     let end = c .before .before .before .before .before .before .before .before .before .before .before .before .before .before .before .shorter .result in
     let e = c .before .before .before .before .before .before .before .before .before .before .before .before .before .before .before .shorter .ensures in
     let p : 32 * (end / 32) ≡ 8 * (4 * (end / 32)) = omega arith in
-    let fours = c .before .before .before .before .before .before .before .before .before .before .before .before .before .by-patterns .ensures (s .op) (stroke s) m ∙ ap (λ (n : ℕ). drawn (s .op) (before n (stroke s)) v) p in
-    let words = c .before .before .before .before .before .before .before .before .before .by-words .ensures (s .op) (stroke s) m v fours in
+    let patterns = c .before .before .before .before .before .before .before .before .before .before .before .before .before .by-patterns .ensures (s .op) (stroke s) m ∙ ap (λ (n : ℕ). drawn (s .op) (before n (stroke s)) v) p in
+    let whole-words = c .before .before .before .before .before .before .before .before .before .by-words .ensures (s .op) (stroke s) m v patterns in
     let bytes
     = c .before .before .before .by-bytes .ensures (s .op) (stroke s)
     (λ j l h.
@@ -70,7 +70,7 @@ returns c =
       ap (λ (g : ℕ). byte (getD (t .xor) g 0) (j % 8)) q ∙ m .xor j,
     ))
     v
-    words
+    whole-words
     in (
       bytes ∙ (ap (λ (n : ℕ). drawn (s .op) (before n (stroke s)) v) e ∙ drawn-before-min (s .op) (s .width) (stroke s) v),
       c .count .ensures ∙ ap (λ (n : ℕ). counted n (enabled s)) e,

@@ -1,4 +1,4 @@
--- `strokes::pattern` meets its contract: pattern words. Assumes nothing.
+-- `strokes::pattern` meets its contract: four words. Assumes nothing.
 use mathlib.Core.Path.{ap, _∙_}
 use Prim.Native.Nat.{ℕ, _+_}
 use native.Mathlib.Nat.{add-assoc}
