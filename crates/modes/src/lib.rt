@@ -20,19 +20,19 @@ pub fn mode_of(v: u32) -> Mode
     }
 }
 
-// A value that is no listed code.
-pub fn is_unlisted(m: Mode) -> bool
-    ensures { λ r. ⌜ r ≡ unlisted m ⌝ }
+// Whether a whole register value is no listed code.
+pub fn is_unlisted(v: u32) -> bool
+    ensures { λ r. ⌜ r ≡ unlisted (modeOf v) ⌝ }
 {
-    match m {
-        Mode::Simple => false,
-        Mode::OpaqueStipple => false,
-        Mode::TransparentStipple => false,
-        Mode::OpaqueFill => false,
-        Mode::TransparentFill => false,
-        Mode::BlockStipple => false,
-        Mode::BlockFill => false,
-        Mode::Copy => false,
-        Mode::Unlisted => true,
+    match v {
+        0x00 => false,
+        0x01 => false,
+        0x05 => false,
+        0x21 => false,
+        0x45 => false,
+        0x0D => false,
+        0x2D => false,
+        0x07 => false,
+        _ => true,
     }
 }

@@ -27,14 +27,14 @@ pub fn plan(card: Card, w: Write) -> Plan
     let mut faults = Faults {
         lanes: w.lanes != ALL_LANES,
         register: false,
-        mode: modes::is_unlisted(modes::mode_of(card.registers.mode)),
+        mode: modes::is_unlisted(card.registers.mode),
         raster: LAST_OPERATION < card.registers.raster,
         address: false,
         source: false,
     };
     match register {
         Register::Mode => {
-            faults.mode = or(faults.mode, modes::is_unlisted(modes::mode_of(data)));
+            faults.mode = or(faults.mode, modes::is_unlisted(data));
             storing(faults, op, register, value)
         }
         Register::RasterOperation => {

@@ -1,7 +1,7 @@
--- Enabled pixels counted by the set bits of a word that repeats. `repeated` assumes a word of 32 bits.
+-- Enabled pixels counted by the set bits of a word that repeats. `repeated` and `repeated-whole` assume a word of 32 bits.
 use mathlib.Core.Path.{_≡_, refl, ap, ap₂, sym, _∙_}
 use Prim.Native.Nat.{ℕ, zero, suc, _+_, _*_, _/_, _%_, _^_, _<_, _≤_}
-use native.Mathlib.Nat.{mod-one, mod-lt, one-mul, add-comm, zero-mul, suc-mul, mod-eq-of-lt}
+use native.Mathlib.Nat.{add-zero, mod-one, mod-lt, one-mul, add-comm, zero-mul, suc-mul, mod-eq-of-lt}
 use native.Mathlib.Omega.{arith}
 use lib.Count.{ones, ones-cat}
 use lib.Dec.{eqb, lit<}
@@ -55,3 +55,10 @@ repeated x n h =
     ∙ (ap₂ (λ (a b : ℕ). a + b) (sym (turns x (n / 32)))
     (counted-same (n % 32) (λ j l. let e : j % 32 ≡ (n / 32 * 32 + j) % 32 = omega arith in ap (λ (k : ℕ). bit x k) e))
     ∙ (sym (counted-append (n / 32 * 32) (n % 32) (λ j. bit x (j % 32))) ∙ ap (λ (k : ℕ). counted k (λ j. bit x (j % 32))) p))
+
+-- where nothing is left
+pub repeated-whole : (x n : ℕ) → x < 2 ^ 32 → n % 32 ≡ 0 → n / 32 * ones x ≡ counted n (λ j. bit x (j % 32))
+unfolding ones
+repeated-whole x n h z =
+    let none : 0 ≡ ones (x % 2 ^ (n % 32)) = sym (ap (λ (r : ℕ). ones (x % 2 ^ r)) z ∙ ap ones (mod-one x)) in
+    sym (add-zero (n / 32 * ones x)) ∙ (ap (λ (k : ℕ). n / 32 * ones x + k) none ∙ repeated x n h)

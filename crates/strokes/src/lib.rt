@@ -2,7 +2,7 @@
 // drawing mode.
 ghost use mathlib.Core.Path.{_≡_};
 ghost use mathlib.Core.List.{List};
-ghost use Prim.Native.Nat.{ℕ, _+_, _*_, _%_, _^_, _≤_, _<_, min};
+ghost use Prim.Native.Nat.{ℕ, _+_, _*_, _/_, _%_, _^_, _≤_, _<_, min};
 ghost use lib.Bits.{bitAnd, bitXor};
 ghost use lib.ListN.{length, getD};
 ghost use lib.Seq.{sets};
@@ -82,6 +82,20 @@ fn by_bytes(part: &mut [u8], start: usize, end: usize, and: u64, xor: u64)
     }
 }
 
+// The pixels after the last whole pattern. Where there are none, the table need not stand in memory.
+fn last(part: &mut [u8], end: usize, t: Table)
+    requires { ⌜ end ≤ length (now part) ⌝ }
+    ensures { λ _. ⌜ ((op : ℕ) (f : ℕ → Fragment) → Makes t op f → (v : List ℕ)
+        → now (part .entry) ≡ drawn op (before (32 * (end / 32)) f) v → now (part .exit) ≡ drawn op (before end f) v) ⌝ }
+{
+    if end % 32 == 0 {
+        return;
+    }
+    let n = end / 8;
+    by_words(part, 4 * (end / 32), n, t);
+    by_bytes(part, 8 * n, end, t.and[n % 4], t.xor[n % 4]);
+}
+
 // ---- Pixels counted.
 
 // How many of the first n pixels are enabled: no turn of a loop for each.
@@ -90,8 +104,12 @@ fn count(enable: u32, n: usize) -> u32
     ensures { λ r. ⌜ r ≡ counted n (λ j. bit enable (j % 32)) ⌝ }
 {
     let n = n as u32;
+    let turns = n / 32 * u32::count_ones(enable);
     let rest = n % 32;
-    n / 32 * u32::count_ones(enable) + u32::count_ones(enable % (1 << rest))
+    if rest == 0 {
+        return turns;
+    }
+    turns + u32::count_ones(enable % (1 << rest))
 }
 
 // ---- The span.
@@ -111,11 +129,8 @@ fn draw(part: &mut [u8], s: Strokes) -> Tally
 {
     let t = tables::digest(s);
     let end = shorter(s.width, part.len());
-    let whole = end / 32;
-    let n = end / 8;
-    by_patterns(part, whole, t);
-    by_words(part, 4 * whole, n, t);
-    by_bytes(part, 8 * n, end, t.and[n % 4], t.xor[n % 4]);
+    by_patterns(part, end / 32, t);
+    last(part, end, t);
     let enabled = count(s.enable, end);
     Tally { enabled }
 }

@@ -12,17 +12,11 @@ find-requires c κs = search needs
 cast-op : tie.Need-cast-op
 cast-op c = search needs
 
-mode-of-requires : tie.Need-mode-of-requires
-mode-of-requires c κs = search needs
-
 is-unlisted-requires : tie.Need-is-unlisted-requires
 is-unlisted-requires c κs = search needs
 
 enum-told : tie.Need-enum-told
 enum-told c = search needs
-
-mode-of-requires-2 : tie.Need-mode-of-requires-2
-mode-of-requires-2 c κs = search needs
 
 is-unlisted-requires-2 : tie.Need-is-unlisted-requires-2
 is-unlisted-requires-2 c κs = search needs
@@ -74,58 +68,58 @@ storing-requires-5 c κs = search needs
 
 returns : tie.Need-returns
 returns c =
-    let a = c .before .before .before .before .before .before .before .before .before .before .before .before .before .args in
-    let told = c .before .before .before .before .enum-told .given .1 in
-    stores-arm (a .card) (a .w) (c .before .before .before .before .before .before .before .before .before .before .before .before .find .ensures)
-    (rw (told, c .before .or .ensures, c .before .before .is-unlisted2 .ensures, c .before .before .before .mode-of2 .ensures, c .before .before .before .before .before .before .before .is-unlisted .ensures, c .before .before .before .before .before .before .before .before .mode-of .ensures) (simp or-false))
+    let a = c .before .before .before .before .before .before .before .before .before .before .before .args in
+    let told = c .before .before .before .enum-told .given .1 in
+    stores-arm (a .card) (a .w) (c .before .before .before .before .before .before .before .before .before .before .find .ensures)
+    (rw (told, c .before .or .ensures, c .before .before .is-unlisted2 .ensures, c .before .before .before .before .before .before .is-unlisted .ensures) (simp or-false))
     (rw told) (rw told) (c .storing .ensures)
 
 returns-2 : tie.Need-returns-2
 returns-2 c =
-    let a = c .before .before .before .before .before .before .before .before .before .before .before .args in
+    let a = c .before .before .before .before .before .before .before .before .before .before .args in
     let told = c .before .before .enum-told2 .given .1 in
-    stores-arm (a .card) (a .w) (c .before .before .before .before .before .before .before .before .before .before .find .ensures)
-    (rw (told, c .before .or2 .ensures, c .before .before .before .before .before .is-unlisted .ensures, c .before .before .before .before .before .before .mode-of .ensures) (simp or-false))
+    stores-arm (a .card) (a .w) (c .before .before .before .before .before .before .before .before .before .find .ensures)
+    (rw (told, c .before .or2 .ensures, c .before .before .before .before .before .is-unlisted .ensures) (simp or-false))
     (rw told) (rw told) (c .storing2 .ensures)
 
 returns-3 : tie.Need-returns-3
 returns-3 c =
-    let a = c .before .before .before .before .before .before .before .before .before .before .before .args in
+    let a = c .before .before .before .before .before .before .before .before .before .before .args in
     let told = c .before .before .enum-told3 .given .1 in
-    stores-arm (a .card) (a .w) (c .before .before .before .before .before .before .before .before .before .before .find .ensures)
-    (rw (told, c .before .or3 .ensures, c .before .before .before .before .before .is-unlisted .ensures, c .before .before .before .before .before .before .mode-of .ensures) (simp or-false))
+    stores-arm (a .card) (a .w) (c .before .before .before .before .before .before .before .before .before .find .ensures)
+    (rw (told, c .before .or3 .ensures, c .before .before .before .before .before .is-unlisted .ensures) (simp or-false))
     (rw told) (rw told) (c .storing3 .ensures)
 
 returns-4 : tie.Need-returns-4
 returns-4 c =
-    let a = c .before .before .before .before .before .before .before .before .before .before .args in
+    let a = c .before .before .before .before .before .before .before .before .before .args in
     let told = c .before .enum-told4 .given .1 in
-    loads-arm (a .card) (a .w) (c .before .before .before .before .before .before .before .before .before .find .ensures)
-    (rw (told, c .before .before .before .before .is-unlisted .ensures, c .before .before .before .before .before .mode-of .ensures) (simp or-false))
+    loads-arm (a .card) (a .w) (c .before .before .before .before .before .before .before .before .find .ensures)
+    (rw (told, c .before .before .before .before .is-unlisted .ensures) (simp or-false))
     (rw told) (c .copying .ensures)
 
 returns-5 : tie.Need-returns-5
 returns-5 c =
-    let a = c .before .before .before .before .before .before .before .before .before .before .before .args in
+    let a = c .before .before .before .before .before .before .before .before .before .before .args in
     let told = c .before .before .enum-told5 .given .1 in
-    unloads-arm (a .card) (a .w) (c .before .before .before .before .before .before .before .before .before .before .find .ensures)
-    (rw (told, c .before .before .before .before .before .is-unlisted .ensures, c .before .before .before .before .before .before .mode-of .ensures) (simp (or-false, not-not)))
+    unloads-arm (a .card) (a .w) (c .before .before .before .before .before .before .before .before .before .find .ensures)
+    (rw (told, c .before .before .before .before .before .is-unlisted .ensures) (simp (or-false, not-not)))
     (rw told) (rw told) (c .copying2 .ensures)
 
 returns-6 : tie.Need-returns-6
 returns-6 c =
-    let a = c .before .before .before .before .before .before .before .before .before .before .args in
+    let a = c .before .before .before .before .before .before .before .before .before .args in
     let told = c .before .enum-told6 .given .1 in
-    stores-arm (a .card) (a .w) (c .before .before .before .before .before .before .before .before .before .find .ensures)
-    (rw (told, c .before .before .before .before .is-unlisted .ensures, c .before .before .before .before .before .mode-of .ensures) (simp or-false))
+    stores-arm (a .card) (a .w) (c .before .before .before .before .before .before .before .before .find .ensures)
+    (rw (told, c .before .before .before .before .is-unlisted .ensures) (simp or-false))
     (rw told) (rw told) (c .storing4 .ensures)
 
 returns-7 : tie.Need-returns-7
 returns-7 c =
-    let a = c .before .before .before .before .before .before .before .before .before .args in
-    let p = plain (c .before .before .before .before .before .before .before .before .find .result .register) (c .before .match .keys7) in
-    stores-arm (a .card) (a .w) (c .before .before .before .before .before .before .before .before .find .ensures)
-    (rw (c .before .before .before .is-unlisted .ensures, c .before .before .before .before .mode-of .ensures) (simp (p .0, p .1, p .2, p .3, p .4, p .5, or-false)))
+    let a = c .before .before .before .before .before .before .before .before .args in
+    let p = plain (c .before .before .before .before .before .before .before .find .result .register) (c .before .match .keys7) in
+    stores-arm (a .card) (a .w) (c .before .before .before .before .before .before .before .find .ensures)
+    (rw (c .before .before .before .is-unlisted .ensures) (simp (p .0, p .1, p .2, p .3, p .4, p .5, or-false)))
     (p .3) (p .4) (c .storing5 .ensures)
 
 pub plan-spec : {M : Type 1} → statement M
@@ -134,10 +128,8 @@ plan-spec =
     (tie.spec
     find-requires
     cast-op
-    mode-of-requires
     is-unlisted-requires
     enum-told
-    mode-of-requires-2
     is-unlisted-requires-2
     or-requires
     storing-requires

@@ -6,7 +6,7 @@ use lib.Count.{ones-le}
 use lib.Pow.{pow-pos}
 use Rattle.raster.specs.Pixel.{bit}
 use Rattle.span.proofs.Counted.{counted-le}
-use Rattle.strokes.proofs.SetBits.{one-shifted, repeated}
+use Rattle.strokes.proofs.SetBits.{one-shifted, repeated, repeated-whole}
 use borrow.Author.Needs.{needs}
 use Rattle.strokes.proofs.count.Statement.{statement}
 use Rattle.strokes.proofs.count.Tie as tie
@@ -14,22 +14,28 @@ use Rattle.strokes.proofs.count.Tie as tie
 cast-n : tie.Need-cast-n
 cast-n c = search needs
 
-mul-result : tie.Need-mul-result
-mul-result c = omega (arith, mul-le-mul-left (c .args .n / 32) (ones-le 32 (c .args .enable) (omega arith)))
+mul-turns : tie.Need-mul-turns
+mul-turns c = omega (arith, mul-le-mul-left (c .args .n / 32) (ones-le 32 (c .args .enable) (omega arith)))
+
+returns : tie.Need-returns
+returns c = repeated-whole (c .before .args .enable) (c .before .args .n) (omega arith) (c .if1 .taken)
 
 shl-result : tie.Need-shl-result
 shl-result c = search needs
 
 rem-result : tie.Need-rem-result
-rem-result c = rw (one-shifted (c .args .n % 32) (omega arith)) (pow-pos (c .args .n % 32))
+rem-result c = rw (one-shifted (c .before .args .n % 32) (omega arith)) (pow-pos (c .before .args .n % 32))
 
 add-result : tie.Need-add-result
 add-result c =
-    let e = repeated (c .args .enable) (c .args .n) (omega arith) in
-    rw (one-shifted (c .args .n % 32) (omega arith)) (omega (arith, e, counted-le (c .args .n) (λ j. bit (c .args .enable) (j % 32))))
+    let a = c .before .args in
+    let e = repeated (a .enable) (a .n) (omega arith) in
+    rw (one-shifted (a .n % 32) (omega arith)) (omega (arith, e, counted-le (a .n) (λ j. bit (a .enable) (j % 32))))
 
-returns : tie.Need-returns
-returns c = rw (one-shifted (c .args .n % 32) (omega arith)) (repeated (c .args .enable) (c .args .n) (omega arith))
+returns-2 : tie.Need-returns-2
+returns-2 c =
+    let a = c .before .args in
+    rw (one-shifted (a .n % 32) (omega arith)) (repeated (a .enable) (a .n) (omega arith))
 
 pub count-spec : {M : Type 1} → statement M
-count-spec = tie.close (tie.spec cast-n mul-result shl-result rem-result add-result returns)
+count-spec = tie.close (tie.spec cast-n mul-turns returns shl-result rem-result add-result returns-2)
