@@ -1,4 +1,4 @@
-// The words that a span takes, eight pixels each: registers and bytes digested once, before any pixel is drawn.
+// The words that a span takes of registers, eight pixels each, and its masks: made once, before any pixel is drawn.
 ghost use mathlib.Core.Path.{_≡_};
 ghost use mathlib.Core.Bool.{cond};
 ghost use mathlib.Core.List.{[], _∷_};
