@@ -58,10 +58,10 @@ struct Block([u8; 256]);
 
 const _: () = assert!(size_of::<Card>() <= 256);
 
-/// What makes writes on a card of the library's that starts at reset.
-pub fn card(library: Library) -> impl FnMut(&mut [u8], Write) -> (u32, u32) {
+/// What makes writes on a card of the library's that starts at reset, with these held planes.
+pub fn card(library: Library, held: u8) -> impl FnMut(&mut [u8], Write) -> (u32, u32) {
     let mut block = Block([0; 256]);
-    unsafe { (library.reset)(from_mut(&mut block.0).cast(), 0) };
+    unsafe { (library.reset)(from_mut(&mut block.0).cast(), held) };
     move |vram, write| unsafe {
         entries::write(library.write, from_mut(&mut block.0).cast(), vram, write)
     }

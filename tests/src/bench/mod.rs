@@ -1,14 +1,17 @@
 //! The engine's speed beside that of another commit's library, a plain implementation, memset and memcpy. No test: nothing is
 //! demanded of the numbers.
 
+mod font;
 mod library;
 mod rows;
 mod side;
 mod table;
+mod text;
 mod timing;
 mod traces;
 
 use rows::VRAM;
+use table::Table;
 use timing::ROUNDS;
 
 /// Raster operation and plane mask of each set of rows.
@@ -35,10 +38,29 @@ pub fn bench() -> Result<(), String> {
             table.print_row(&row, &timing::measure(&row)?);
         }
     }
+    print_texts(&table)?;
     println!("\na trace of {} mixed entries", traces::ENTRIES);
     table.print_heading();
     for (row, way) in traces::rows() {
         table.print_row(&row, &traces::measure(&row, way)?);
+    }
+    Ok(())
+}
+
+fn print_texts(table: &Table) -> Result<(), String> {
+    let rows = text::rows();
+    println!(
+        "\ntext: opaque stipples of an 8 by 16 font, raster operation 3, plane mask FFFFFFFFh"
+    );
+    println!(
+        "{} stipples a row, with {} register writes between them, for colours and pixel masks. The time is that of all, and the stipples",
+        text::STIPPLES,
+        text::register_writes(&rows[0])
+    );
+    println!("alone are counted: nanoseconds for a stipple are milliseconds for the million.");
+    table.print_heading();
+    for row in &rows {
+        table.print_row(row, &timing::measure(row)?);
     }
     Ok(())
 }

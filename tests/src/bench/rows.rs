@@ -12,11 +12,16 @@ const TURNS: usize = 1_000;
 
 pub struct Row {
     pub name: String,
+    /// Held planes at reset.
+    pub held: u8,
     /// Register writes, on a card at reset, that set what the row needs.
     pub setting: Vec<Write>,
     pub writes: Vec<Write>,
-    /// Turns in one pass over the writes; a turn is one write, or the two of a copy.
+    /// Turns in one pass over the writes; a turn is one write, the two of a copy, or one stipple of a text with the register writes
+    /// before it.
     pub turns: usize,
+    /// The writes of a turn that count in a rate: all of them, but of a text the stipple alone.
+    pub writes_a_turn: usize,
     /// The pixels that a turn covers, masked or not, from each of these places on; none for a register write.
     pub pixels: usize,
     pub places: Vec<usize>,
@@ -42,12 +47,14 @@ pub fn rows(raster: u32, plane: u32) -> Vec<Row> {
     rows
 }
 
-fn empty_row(setting: &[Write], name: String, pixels: usize) -> Row {
+pub fn empty_row(setting: &[Write], name: String, pixels: usize) -> Row {
     Row {
         name,
+        held: 0,
         setting: setting.to_vec(),
         writes: Vec::new(),
         turns: TURNS,
+        writes_a_turn: 1,
         pixels,
         places: Vec::new(),
     }
@@ -70,6 +77,7 @@ fn frame_row(random: &mut Random, setting: &[Write], mode: u32, name: &str) -> R
     };
     let mut row = empty_row(setting, name, pixels);
     row.setting.push(register_write(0x0030, mode));
+    row.writes_a_turn = if copy { 2 } else { 1 };
     for _ in 0..TURNS {
         // A fill starts at any pixel; the bits of a stipple are random, a copy takes all its pixels.
         let low = if fill { random.below(4) as u32 } else { 0 };
@@ -89,7 +97,7 @@ fn frame_row(random: &mut Random, setting: &[Write], mode: u32, name: &str) -> R
     row
 }
 
-fn frame_write(address: u32, data: u32) -> Write {
+pub fn frame_write(address: u32, data: u32) -> Write {
     Write {
         space: FRAME,
         lanes: 15,
@@ -98,7 +106,7 @@ fn frame_write(address: u32, data: u32) -> Write {
     }
 }
 
-fn register_write(offset: u32, data: u32) -> Write {
+pub fn register_write(offset: u32, data: u32) -> Write {
     Write {
         space: REGISTER,
         lanes: 15,
@@ -109,6 +117,7 @@ fn register_write(offset: u32, data: u32) -> Write {
 
 fn copy64_row(random: &mut Random, setting: &[Write]) -> Row {
     let mut row = empty_row(setting, String::from("64-byte copy, both writes"), 64);
+    row.writes_a_turn = 2;
     for _ in 0..TURNS {
         let source = address(random, 64, 64);
         let destination = address(random, 64, 64);

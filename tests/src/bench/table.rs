@@ -45,8 +45,7 @@ pub const TIMES: Table = Table {
 };
 
 fn writes(row: &Row, seconds: Option<f64>) -> Option<f64> {
-    let writes = row.writes.len() / row.turns;
-    seconds.map(|seconds| writes as f64 / seconds / 1e6)
+    seconds.map(|seconds| row.writes_a_turn as f64 / seconds / 1e6)
 }
 
 fn pixels(row: &Row, seconds: Option<f64>) -> Option<f64> {

@@ -45,9 +45,9 @@ impl Times {
 pub fn measure(row: &Row) -> Result<Times, String> {
     let picture = Random::of_case(1, 1).bytes(VRAM);
     let mut memory = picture.clone();
-    let mut engine = Side::new(library::card(THIS), &picture);
-    let mut other = OTHER.map(|other| Side::new(library::card(other), &picture));
-    let mut card = fast::reset(0);
+    let mut engine = Side::new(library::card(THIS, row.held), &picture);
+    let mut other = OTHER.map(|other| Side::new(library::card(other, row.held), &picture));
+    let mut card = fast::reset(row.held);
     let mut plain = Side::new(|vram, write| fast::write(&mut card, vram, write), &picture);
     let pixels = plain.first_pass(row)?;
     if !engine.same_work(row, pixels, &plain.vram)? {

@@ -35,9 +35,11 @@ pub fn rows() -> impl Iterator<Item = (Row, Way)> {
     WAYS.into_iter().map(move |(name, way)| {
         let row = Row {
             name: String::from(name),
+            held: 0,
             setting: Vec::new(),
             writes: writes.clone(),
             turns: ENTRIES,
+            writes_a_turn: 1,
             pixels: 0,
             places: Vec::new(),
         };
