@@ -1,22 +1,58 @@
 //! Traces whole and damaged.
 
 use crate::generate::Maker;
+use crate::listed::mode;
 use crate::model::trace::{self, ENTRY, HEADER};
-use crate::model::{self, refusal, Write};
+use crate::model::{self, refusal, Card, Write, REGISTER};
 
 /// Of the refused writes that come up one in so many is taken into a trace, so that runs are long.
 pub const FEW: u64 = 60;
 /// So rare a refused write does not come up: none is taken.
 pub const NEVER: u64 = u64::MAX;
 
-/// Writes for a trace from reset, made on a model card as it goes; one in `rare` refused ones is taken, all on a VRAM that 1
-/// forbids.
+/// Makes the next write for a card and a VRAM length.
+type Next = fn(&mut Maker, &Card, usize) -> Write;
+
+/// Writes of every kind for a trace from reset.
 pub fn writes(maker: &mut Maker, length: usize, entries: usize, rare: u64) -> Vec<Write> {
+    list(maker, Maker::write, length, entries, rare)
+}
+
+/// Opaque stipples for a trace from reset, and the register writes that they go by.
+pub fn stipples(maker: &mut Maker, length: usize, entries: usize, rare: u64) -> Vec<Write> {
+    list(maker, stipple_or_setting, length, entries, rare)
+}
+
+fn stipple_or_setting(maker: &mut Maker, card: &Card, length: usize) -> Write {
+    let wanted = maker.stipple_card();
+    let settings = [
+        (0x0020, wanted.foreground),
+        (0x0024, wanted.background),
+        (0x0028, wanted.plane),
+        (0x002C, wanted.pixel),
+        (0x0034, wanted.raster),
+        (0x005C, wanted.pixel),
+    ];
+    let (address, data) = match card.mode {
+        mode::OPAQUE_STIPPLE if maker.random.one_in(2) => return maker.stipple(card, length),
+        mode::OPAQUE_STIPPLE => maker.random.pick(&settings),
+        _ => (0x0030, mode::OPAQUE_STIPPLE),
+    };
+    Write {
+        space: REGISTER,
+        lanes: 15,
+        address,
+        data,
+    }
+}
+
+/// Made on a model card as it goes; one in `rare` refused writes is taken, all on a VRAM that 1 forbids.
+fn list(maker: &mut Maker, next: Next, length: usize, entries: usize, rare: u64) -> Vec<Write> {
     let mut card = model::reset(0);
     let mut vram = vec![0; length];
     let mut list = Vec::new();
     while list.len() < entries {
-        let write = maker.write(&card, length);
+        let write = next(maker, &card, length);
         let refused = model::write(&mut card, &mut vram, write).0 != 0;
         let wanted = !refused || refusal::bad_length(length as u64) || maker.random.one_in(rare);
         if wanted {

@@ -1,4 +1,5 @@
-//! The engine against the model: the recorded traces, then numbered cases of writes, of traces, of calipers and of serial lines.
+//! The engine against the model: the recorded traces, then numbered cases of writes of every kind, of opaque stipples, of traces, of
+//! calipers and of serial lines.
 
 use super::calls::Calls;
 use super::serial::{self, Met};
@@ -31,7 +32,7 @@ pub fn compare(seed: u64, first: u64, last: u64) -> Outcome {
     for case in first..=last {
         let mut maker = Maker::new(Random::of_case(seed, case));
         let outcome = if case < WRITE_CASES {
-            writes::case(&ENGINE, &mut maker, &mut coverage)
+            writes::case(&ENGINE, &mut maker, &mut coverage, case)
         } else if case < FIRST_CALIPER {
             traces::case(&mut maker, &mut calls)
         } else if case < FIRST_LINE {

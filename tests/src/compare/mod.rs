@@ -18,7 +18,7 @@ use crate::model::{self, Card, Write};
 use std::fmt::Debug;
 
 /// Cases below this number are runs of writes.
-const WRITE_CASES: u64 = 1_000;
+const WRITE_CASES: u64 = writes::FIRST_STIPPLES + 700;
 
 type Outcome = Result<(), String>;
 
@@ -92,6 +92,6 @@ fn all_reached(missing: &[String]) -> Outcome {
     if missing.is_empty() {
         Ok(())
     } else {
-        Err(format!("never reached: {}", missing.join("; ")))
+        Err(format!("not reached: {}", missing.join("; ")))
     }
 }

@@ -1,4 +1,4 @@
-//! The plain implementation against the model: the cases of writes that `compare` gives the engine with the same seed.
+//! The plain implementation against the model: the cases of writes and stipples that `compare` gives the engine with the same seed.
 
 use super::{all_reached, writes, Other, WRITE_CASES};
 use crate::coverage::Coverage;
@@ -18,7 +18,7 @@ pub fn check_all() -> Result<u64, String> {
     let mut coverage = Coverage::new();
     for case in 0..WRITE_CASES {
         let mut maker = Maker::new(Random::of_case(SEED, case));
-        writes::case(&PLAIN, &mut maker, &mut coverage)
+        writes::case(&PLAIN, &mut maker, &mut coverage, case)
             .map_err(|why| format!("plain implementation, seed {SEED} case {case}: {why}"))?;
     }
     all_reached(&coverage.missing())?;

@@ -17,7 +17,11 @@ pub fn case(maker: &mut Maker, calls: &mut Calls) -> Outcome {
     } else {
         maker.random.below(50) as usize
     };
-    let writes = damage::writes(maker, length, entries, damage::FEW);
+    let writes = if maker.random.one_in(4) {
+        damage::stipples(maker, length, entries, damage::FEW)
+    } else {
+        damage::writes(maker, length, entries, damage::FEW)
+    };
     written(maker, calls, length, &writes[..entries.min(50)])?;
     let whole = damage::whole(length, &writes);
     lengthened(maker, calls, &whole)?;

@@ -5,11 +5,23 @@ use crate::coverage::Coverage;
 use crate::generate::Maker;
 use crate::model::{self, Card, Write};
 
+/// Cases from this number on are opaque stipples.
+pub const FIRST_STIPPLES: u64 = 1_000;
+
 const WRITES_A_CASE: usize = 300;
 const WRITES_A_SHORT_CASE: usize = 12;
+const STIPPLES_A_CASE: usize = 500;
+
+pub fn case(other: &Other, maker: &mut Maker, coverage: &mut Coverage, case: u64) -> Outcome {
+    if case < FIRST_STIPPLES {
+        any(other, maker, coverage)
+    } else {
+        stipples(other, maker, coverage)
+    }
+}
 
 /// Some hundred writes on a kept card and picture; now and then another card is handed in.
-pub fn case(other: &Other, maker: &mut Maker, coverage: &mut Coverage) -> Outcome {
+fn any(other: &Other, maker: &mut Maker, coverage: &mut Coverage) -> Outcome {
     let (length, short) = maker.length();
     let mut vram = Pair::new(picture(maker, length));
     let mut card = fresh_card(other, maker)?;
@@ -18,7 +30,7 @@ pub fn case(other: &Other, maker: &mut Maker, coverage: &mut Coverage) -> Outcom
     } else {
         WRITES_A_CASE
     };
-    for k in 0..writes {
+    for _ in 0..writes {
         if maker.random.one_in(60) {
             card = maker.good_card();
         }
@@ -29,11 +41,24 @@ pub fn case(other: &Other, maker: &mut Maker, coverage: &mut Coverage) -> Outcom
             card.clone()
         };
         let write = maker.write(&handed, length);
-        let after = one_write(other, coverage, &handed, &mut vram, write).map_err(|why| {
-            format!("VRAM {length}, write {k}, {write:X?}, card {handed:X?}: {why}")
-        })?;
+        let after = one_write(other, coverage, &handed, &mut vram, write)?;
         // A card that is bad would be refused for ever, so the good one goes on.
         card = if bad { card } else { after };
+    }
+    Ok(())
+}
+
+/// Opaque stipples on a kept picture, each on a card of its own.
+fn stipples(other: &Other, maker: &mut Maker, coverage: &mut Coverage) -> Outcome {
+    let length = maker.short_length();
+    let mut vram = Pair::new(maker.random.bytes(length));
+    for _ in 0..STIPPLES_A_CASE {
+        let mut card = maker.stipple_card();
+        if maker.random.one_in(40) {
+            card = maker.bad_card(&card);
+        }
+        let write = maker.stipple(&card, length);
+        one_write(other, coverage, &card, &mut vram, write)?;
     }
     Ok(())
 }
@@ -49,9 +74,15 @@ fn one_write(
     let mut theirs = card.clone();
     let answer = model::write(&mut ours, &mut vram.model, write);
     let given = (other.write)(&mut theirs, &mut vram.other, write);
-    same("number and count", &answer, &given)?;
-    same("card", &ours, &theirs)?;
-    vram.same("VRAM")?;
+    same("number and count", &answer, &given)
+        .and_then(|()| same("card", &ours, &theirs))
+        .and_then(|()| vram.same("VRAM"))
+        .map_err(|why| {
+            format!(
+                "VRAM {}, {write:X?}, card {card:X?}: {why}",
+                vram.model.len()
+            )
+        })?;
     coverage.write(card, write, answer);
     Ok(ours)
 }

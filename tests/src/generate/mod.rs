@@ -1,5 +1,7 @@
 //! Cards and writes that reach every mode, register, refusal and boundary.
 
+mod stipples;
+
 use crate::listed::mode::{self, MODES};
 use crate::listed::{LARGEST_VRAM, OFFSETS};
 use crate::model::{Card, Write, FRAME, REGISTER};
@@ -98,11 +100,12 @@ impl Maker {
         bad
     }
 
+    /// None, one or any.
     pub fn held(&mut self) -> u8 {
-        if self.random.one_in(2) {
-            0
-        } else {
-            self.random.byte()
+        match self.random.below(4) {
+            0 | 1 => 0,
+            2 => 1 << self.random.below(8),
+            _ => self.random.byte(),
         }
     }
 
@@ -117,7 +120,7 @@ impl Maker {
 
     /// The next write for this card and VRAM length.
     pub fn write(&mut self, card: &Card, length: usize) -> Write {
-        let mut write = match self.random.below(20) {
+        let write = match self.random.below(20) {
             0..=10 => self.frame_write(card, length as u64),
             11..=18 => self.register_write(length as u64),
             _ => Write {
@@ -127,6 +130,11 @@ impl Maker {
                 data: self.random.word(),
             },
         };
+        self.spoilt(write)
+    }
+
+    /// The write, now and then with another space or other lanes.
+    fn spoilt(&mut self, mut write: Write) -> Write {
         if self.random.one_in(40) {
             write.space = self.random.byte().max(2);
         }
