@@ -1,6 +1,10 @@
 // What becomes of the card: the effect of an accepted write, carried out.
 ghost use mathlib.Core.Path.{_≡_};
+ghost use mathlib.Core.List.{List};
+ghost use Prim.Native.Nat.{ℕ};
+ghost use Rattle.card.specs.declared.Write.{Write};
 ghost use Rattle.plan.specs.Plan.{left as leftBy};
+ghost use Rattle.plan.specs.declared.Effect.the-variants.{UsesMask};
 ghost use Rattle.rules.specs.Writes.{usedUp};
 use card::CLEAR;
 use card::Card;
@@ -22,18 +26,24 @@ fn used_up(mask: Mask) -> u32
     ONES
 }
 
+// The card that a frame write in any mode but copy leaves, whatever the write and the picture.
+pub fn mask_used(card: Card) -> Card
+    ensures { λ r. ⌜ ((w : Write) (v : List ℕ) → r ≡ leftBy UsesMask card w v) ⌝ }
+{
+    let mut next = card;
+    let bits = used_up(card.mask);
+    next.mask.bits = bits;
+    next.mask.marked = CLEAR;
+    next
+}
+
 // The card that an effect leaves.
 pub fn left(effect: Effect, card: Card, w: Write, vram: &[u8]) -> Card
     ensures { λ r. ⌜ r ≡ leftBy effect card w (now (vram .entry)) ⌝ }
 {
     let mut next = card;
     match effect {
-        Effect::UsesMask => {
-            let bits = used_up(card.mask);
-            next.mask.bits = bits;
-            next.mask.marked = CLEAR;
-            next
-        }
+        Effect::UsesMask => mask_used(card),
         Effect::ReadsSource => {
             let buffer = card.copier.buffer;
             let read = buffer::source(vram, w.address, w.data, buffer);

@@ -1,2 +1,3 @@
 -- What the crate `engine` promises of a write.
 pub mod Contract
+pub mod Text

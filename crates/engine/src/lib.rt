@@ -1,13 +1,25 @@
 // The engine: one write at a time, with the card's state and a lent video memory.
 // What a write means stands in the crate `rules`; what is promised here stands in specs/.
 ghost use mathlib.Core.Path.{_≡_};
+ghost use mathlib.Core.Bool.{true};
+ghost use lib.ListN.{length};
+ghost use Rattle.rules.specs.Refusal.{refusal};
 ghost use Rattle.plan.specs.Plan.{planOf};
 ghost use Rattle.engine.specs.Contract.{Written};
+ghost use Rattle.engine.specs.Text.{isText};
 use card::Card;
+use card::ONES;
 use card::REGISTERS;
 use card::Write;
 use plan::Plan;
+use span::Strokes;
 use span::Tally;
+
+// The mode register in opaque stipple mode.
+const OPAQUE_STIPPLE: u32 = 0x01;
+
+// The operation that takes the source.
+const COPY: u8 = 3;
 
 // What a write answers: its number, what was drawn, and the next card.
 pub struct Answer {
@@ -27,7 +39,67 @@ fn plan_of(card: Card, w: Write) -> Plan
     }
 }
 
-// One write. A refused one answers its number with no pixel counted, and leaves the card and every byte of VRAM.
+// ---- The two ways of an accepted write, under one contract.
+
+// Any write: its plan's effect and its plan's drawing.
+fn by_plan(p: Plan, card: Card, w: Write, vram: &mut [u8]) -> Answer
+    requires { ⌜ (p ≡ planOf card w) × (refusal card w (length (now vram)) ≡ 0) ⌝ }
+    ensures { λ r. ⌜ Written card w (now (vram .entry)) r (now (vram .exit)) ⌝ }
+{
+    let effect = p.effect;
+    let next = effects::left(effect, card, w, vram);
+    let tally = drawing::draw(p, card, vram);
+    Answer {
+        number: 0,
+        tally,
+        card: next,
+    }
+}
+
+// Text, the shorter way: no operation and no plane mask to go by, nothing of the plan.
+fn text(card: Card, w: Write, vram: &mut [u8]) -> Answer
+    requires { ⌜ (isText card w ≡ true) × (refusal card w (length (now vram)) ≡ 0) ⌝ }
+    ensures { λ r. ⌜ Written card w (now (vram .entry)) r (now (vram .exit)) ⌝ }
+{
+    let foreground = card.registers.foreground;
+    let background = card.registers.background;
+    let source = patterns::stippled(w.data, foreground, background, 0);
+    let mask = patterns::masks(ONES, card.held, 0);
+    let s = Strokes {
+        op: COPY,
+        enable: card.mask.bits,
+        source,
+        mask,
+        width: 32,
+    };
+    let tally = strokes::text_at(vram, w.address, s);
+    let next = effects::mask_used(card);
+    Answer {
+        number: 0,
+        tally,
+        card: next,
+    }
+}
+
+// Whether a write is text: an opaque stipple with operation 3 and a full plane mask.
+fn is_text(card: Card, w: Write) -> bool
+    ensures { λ r. ⌜ r ≡ isText card w ⌝ }
+{
+    if w.space == REGISTERS {
+        return false;
+    }
+    if card.registers.mode != OPAQUE_STIPPLE {
+        return false;
+    }
+    if card.registers.raster != COPY as u32 {
+        return false;
+    }
+    card.registers.plane == ONES
+}
+
+// ---- One write.
+
+// A refused write answers its number with no pixel counted, and leaves the card and every byte of VRAM.
 pub fn write(card: Card, w: Write, vram: &mut [u8]) -> Answer
     ensures { λ r. ⌜ Written card w (now (vram .entry)) r (now (vram .exit)) ⌝ }
 {
@@ -41,12 +113,8 @@ pub fn write(card: Card, w: Write, vram: &mut [u8]) -> Answer
             card,
         };
     }
-    let effect = p.effect;
-    let next = effects::left(effect, card, w, vram);
-    let tally = drawing::draw(p, card, vram);
-    Answer {
-        number: 0,
-        tally,
-        card: next,
+    if is_text(card, w) {
+        return text(card, w, vram);
     }
+    by_plan(p, card, w, vram)
 }

@@ -1,2 +1,3 @@
--- Words in the span routine's contracts.
+-- Words and text in the span routine's contracts.
 pub mod Words
+pub mod Text

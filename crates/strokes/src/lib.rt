@@ -10,6 +10,7 @@ ghost use Rattle.raster.specs.Pixel.{bit};
 ghost use Rattle.span.specs.Fragments.{Fragment, drawn, before, counted, byte, listed};
 ghost use Rattle.span.specs.Strokes.{stroke, enabled, Drew};
 ghost use Rattle.tables.specs.Reduced.{keeps, flips, Makes};
+ghost use Rattle.strokes.specs.Text.{Lettered};
 use span::Strokes;
 use span::Tally;
 use tables::Table;
@@ -143,4 +144,20 @@ pub fn draw_at(vram: &mut [u8], first: usize, s: Strokes) -> Tally
         return Tally::NONE;
     }
     draw(&mut vram[first..], s)
+}
+
+// ---- Text.
+
+// The shorter way of 32 pixels that take the source: a table with nothing to choose, the pattern once, no loop.
+pub fn text_at(vram: &mut [u8], address: u32, s: Strokes) -> Tally
+    ensures { λ r. ⌜ Lettered s address (now (vram .entry)) r (now (vram .exit)) ⌝ }
+{
+    let first = address as usize;
+    if vram.len() < first + 32 {
+        return Tally::NONE;
+    }
+    let t = tables::copied(s);
+    pattern(&mut vram[first..], 0, t);
+    let enabled = count(s.enable, 32);
+    Tally { enabled }
 }

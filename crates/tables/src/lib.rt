@@ -9,6 +9,9 @@ ghost use Rattle.tables.specs.Reduced.{keeps, flips, Makes};
 use pixels::Reduced;
 use span::Strokes;
 
+// All 64 bits.
+const ONES: u64 = 0xFFFF_FFFF_FFFF_FFFF;
+
 // The pattern digested, eight pixels a word: an old word becomes (old & and) ^ xor.
 pub struct Table {
     pub and: [u64; 4],
@@ -42,6 +45,33 @@ pub fn digest(s: Strokes) -> Table
         (s.enable / 0x100_0000 % 0x100) as u8,
         s.source[3],
     );
+    Table {
+        and: [a.and, b.and, c.and, d.and],
+        xor: [a.xor, b.xor, c.xor, d.xor],
+    }
+}
+
+// The same of `masked` for operation 3, which takes the source: there is nothing to choose.
+fn taken(mask: u64, bits: u8, source: u64) -> Reduced
+    ensures { λ r. ⌜ ((k : ℕ) → k < 8
+        → (byte (r .and) k ≡ keeps 3 (cond (bit bits k) (paint (byte mask k) (byte source k)) stays))
+        × (byte (r .xor) k ≡ flips 3 (cond (bit bits k) (paint (byte mask k) (byte source k)) stays))) ⌝ }
+{
+    let mask = mask & words::widen(bits);
+    Reduced {
+        and: mask ^ ONES,
+        xor: mask & source,
+    }
+}
+
+// The table of the strokes under operation 3, whatever their own is.
+pub fn copied(s: Strokes) -> Table
+    ensures { λ r. ⌜ Makes r 3 (stroke s) ⌝ }
+{
+    let a = taken(s.mask, (s.enable % 0x100) as u8, s.source[0]);
+    let b = taken(s.mask, (s.enable / 0x100 % 0x100) as u8, s.source[1]);
+    let c = taken(s.mask, (s.enable / 0x1_0000 % 0x100) as u8, s.source[2]);
+    let d = taken(s.mask, (s.enable / 0x100_0000 % 0x100) as u8, s.source[3]);
     Table {
         and: [a.and, b.and, c.and, d.and],
         xor: [a.xor, b.xor, c.xor, d.xor],

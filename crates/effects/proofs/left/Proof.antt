@@ -1,4 +1,5 @@
 -- `effects::left` meets its contract: each arm is the definition at that effect. Assumes nothing.
+use denote.Ref.{now}
 use Rattle.plan.specs.Plan.{reads, loads, left}
 use Rattle.rules.specs.Writes.{sourced}
 use borrow.Author.Needs.{needs}
@@ -8,8 +9,8 @@ use Rattle.effects.proofs.left.Tie as tie
 enum-told : tie.Need-enum-told
 enum-told c = search needs
 
-used-up-requires : tie.Need-used-up-requires
-used-up-requires c κs = search needs
+mask-used-requires : tie.Need-mask-used-requires
+mask-used-requires c κs = search needs
 
 enum-told-2 : tie.Need-enum-told-2
 enum-told-2 c = search needs
@@ -17,14 +18,14 @@ enum-told-2 c = search needs
 source-requires : tie.Need-source-requires
 source-requires c κs = search needs
 
-used-up-requires-2 : tie.Need-used-up-requires-2
-used-up-requires-2 c κs = search needs
+used-up-requires : tie.Need-used-up-requires
+used-up-requires c κs = search needs
 
 enum-told-3 : tie.Need-enum-told-3
 enum-told-3 c = search needs
 
-used-up-requires-3 : tie.Need-used-up-requires-3
-used-up-requires-3 c κs = search needs
+used-up-requires-2 : tie.Need-used-up-requires-2
+used-up-requires-2 c κs = search needs
 
 enum-known-effect : tie.Need-enum-known-effect
 enum-known-effect c = search needs
@@ -43,15 +44,15 @@ enum-told-5 c = search needs
 
 returns : tie.Need-returns
 unfolding left
-returns c = rw (c .before .before .before .enum-told .given .1, c .before .before .used-up .ensures)
+returns c = rw (c .before .enum-told .given .1) (c .mask-used .ensures (c .before .before .before .before .args .w) (now (c .before .before .before .before .args .vram)))
 
 returns-2 : tie.Need-returns-2
 unfolding left reads sourced
-returns-2 c = rw (c .before .before .before .before .before .enum-told2 .given .1, c .before .before .used-up2 .ensures, c .before .before .before .source .ensures)
+returns-2 c = rw (c .before .before .before .before .before .enum-told2 .given .1, c .before .before .used-up .ensures, c .before .before .before .source .ensures)
 
 returns-3 : tie.Need-returns-3
 unfolding left
-returns-3 c = rw (c .before .before .before .before .enum-told3 .given .1, c .before .before .before .used-up3 .ensures)
+returns-3 c = rw (c .before .before .before .before .enum-told3 .given .1, c .before .before .before .used-up2 .ensures)
 
 returns-4 : tie.Need-returns-4
 unfolding left
@@ -70,12 +71,12 @@ left-spec =
     tie.close
     (tie.spec
     enum-told
-    used-up-requires
+    mask-used-requires
     enum-told-2
     source-requires
-    used-up-requires-2
+    used-up-requires
     enum-told-3
-    used-up-requires-3
+    used-up-requires-2
     enum-known-effect
     store-requires
     enum-told-4

@@ -5,13 +5,12 @@ use denote.Ref.{now}
 use lib.ListN.{length}
 use Rattle.card.specs.declared.Card.{Card}
 use Rattle.card.specs.declared.Write.{Write}
-use Rattle.plan.specs.Plan.{planOf, judged, left}
+use Rattle.plan.specs.Plan.{planOf, judged}
 use Rattle.rules.specs.Refusal.{refusal}
 use Rattle.plan.specs.declared.Plan.{Plan}
+use Rattle.rules.proofs.Tests.{said}
 use Rattle.rules.proofs.Outcome.{count-refused, next-refused, picture-refused}
 use Rattle.plan.proofs.PlanNumber.{planned-number}
-use Rattle.plan.proofs.PlanEffect.{planned-drawable, planned-shows, planned-counts, planned-leaves}
-use Rattle.drawing.proofs.Fitting.{carried}
 use borrow.Author.Needs.{needs}
 use Rattle.engine.proofs.write.Statement.{statement}
 use Rattle.engine.proofs.write.Tie as tie
@@ -38,28 +37,33 @@ returns c =
       shows = sym (picture-refused (a .card) (a .w) v no);
     }
 
-left-requires : tie.Need-left-requires
-left-requires c κs = search needs
+is-text-requires : tie.Need-is-text-requires
+is-text-requires c κs = search needs
 
-draw-requires : tie.Need-draw-requires
-draw-requires c κs = search needs
+text-requires : tie.Need-text-requires
+text-requires c κs =
+    let a = c .before .before .before .before .before .before .before .args in (
+      said (c .before .before .is-text .ensures) (c .before .if2 .taken),
+      accepted (a .card) (a .w) _ (c .before .before .before .before .before .plan-of .ensures) (c .before .before .before .before .refuse .ensures) (c .before .before .before .if1 .left),
+    )
 
 same-length : tie.Need-same-length
 same-length c = search needs
 
 returns-2 : tie.Need-returns-2
-returns-2 c =
-    let a = c .before .before .before .before .before .before .before .before .before .before .args in
-    let v = now (a .vram) in
-    let of = c .before .before .before .before .before .before .before .before .plan-of .ensures in
-    let ok = accepted (a .card) (a .w) (length v) of (c .before .before .before .before .before .before .before .refuse .ensures) (c .before .before .before .before .before .before .if1 .left) in
-    let drew = carried (a .card) v of (planned-drawable (a .card) (a .w) v ok) (c .before .before .draw .ensures) in
-    record {
-      number = sym ok;
-      counts = drew .counts ∙ sym (planned-counts (a .card) (a .w) v ok);
-      leaves = c .before .before .before .before .left .ensures ∙ (ap (λ (p : Plan). left (p .effect) (a .card) (a .w) v) of ∙ sym (planned-leaves (a .card) (a .w) v ok));
-      shows = drew .shows ∙ sym (planned-shows (a .card) (a .w) v ok);
-    }
+returns-2 c = search needs
+
+by-plan-requires : tie.Need-by-plan-requires
+by-plan-requires c κs =
+    let a = c .before .before .before .before .before .before .before .args in
+    let of = c .before .before .before .before .before .plan-of .ensures in
+    (of, accepted (a .card) (a .w) _ of (c .before .before .before .before .refuse .ensures) (c .before .before .before .if1 .left))
+
+same-length-2 : tie.Need-same-length-2
+same-length-2 c = search needs
+
+returns-3 : tie.Need-returns-3
+returns-3 c = search needs
 
 pub write-spec : {M : Type 1} → statement M
 write-spec =
@@ -68,7 +72,10 @@ write-spec =
     plan-of-requires
     refuse-requires
     returns
-    left-requires
-    draw-requires
+    is-text-requires
+    text-requires
     same-length
-    returns-2)
+    returns-2
+    by-plan-requires
+    same-length-2
+    returns-3)

@@ -1,0 +1,98 @@
+-- Text, drawn and counted the shorter way, is what the definitions say of its write. Assumes that the write is text and is accepted.
+use mathlib.Core.Path.{_≡_, refl, ap, sym, _∙_, subst}
+use mathlib.Core.Bool.{Bool, true, false, cond, not, _&&_, false≢true}
+use mathlib.Core.List.{List}
+use Prim.Native.Nat.{ℕ, _+_, _-_, _%_, _^_, _≤_}
+use native.Mathlib.Omega.{arith}
+use lib.Dec.{eqb}
+use lib.ListN.{length}
+use borrow.Author.Tests.{eqb-true}
+use Rattle.raster.specs.Pixel.{bit}
+use Rattle.span.specs.Fragments.{drawn, byte}
+use Rattle.span.specs.Spans.{spanned, enabledIn}
+use Rattle.span.specs.Strokes.{patternByte, Draws}
+use Rattle.span.specs.declared.Strokes.{Strokes}
+use Rattle.span.specs.declared.Tally.{Tally}
+use Rattle.span.proofs.Spans.{draws, drew}
+use Rattle.strokes.specs.Text.{Lettered}
+use Rattle.strokes.proofs.Letters.{lettered-drew}
+use Rattle.card.specs.declared.Card.{Card}
+use Rattle.card.specs.declared.Write.{Write}
+use Rattle.rules.specs.Modes.{modeOf, effective, effectiveBy, frameSpan}
+use Rattle.rules.specs.Refusal.{offBoundary, refusal}
+use Rattle.rules.specs.Writes.{count, next, picture}
+use Rattle.rules.specs.declared.Mode.the-variants.{OpaqueStipple}
+use Rattle.rules.proofs.Outcome.{accepted-passed}
+use Rattle.rules.proofs.Tests.{not-not}
+use Rattle.plan.specs.Plan.{planOf, framePlan, planned, left}
+use Rattle.plan.specs.declared.Effect.the-variants.{UsesMask}
+use Rattle.plan.specs.declared.Plan.{Plan}
+use Rattle.plan.proofs.PlanNumber.{planned-inside}
+use Rattle.plan.proofs.PlanEffect.{planned-shows, planned-counts, planned-leaves}
+use Rattle.drawing.proofs.Sources.{mask-again}
+use Rattle.engine.specs.Text.{isText}
+
+both : (a b : Bool) → a && b ≡ true → (a ≡ true) × (b ≡ true)
+both true b e = (refl, e)
+both false b e = absurd (false≢true e)
+
+module _ (c : Card) (w : Write) (t : isText c w ≡ true) where
+  -- what the test says
+  a-frame-write : eqb (w .space) 1 ≡ false
+  unfolding isText
+  a-frame-write = sym (not-not (eqb (w .space) 1)) ∙ ap not (both (not (eqb (w .space) 1)) _ t .0)
+
+  registers-fit : (c .registers .mode ≡ 1) × (c .registers .raster ≡ 3) × (c .registers .plane ≡ 2 ^ 32 - 1)
+  unfolding isText
+  registers-fit =
+      let rest = both (not (eqb (w .space) 1)) _ t .1 in
+      let last = both (eqb (c .registers .mode) 1) _ rest .1 in (
+        eqb-true (c .registers .mode) 1 (both (eqb (c .registers .mode) 1) _ rest .0),
+        eqb-true (c .registers .raster) 3 (both (eqb (c .registers .raster) 3) _ last .0),
+        eqb-true (c .registers .plane) (2 ^ 32 - 1) (both (eqb (c .registers .raster) 3) _ last .1),
+      )
+
+  in-mode : modeOf (c .registers .mode) ≡ OpaqueStipple
+  unfolding modeOf
+  in-mode = rw (registers-fit .0)
+
+  text-plan : planOf c w ≡ framePlan OpaqueStipple c w
+  unfolding planOf
+  text-plan = rw (a-frame-write, in-mode)
+
+  module _ (v : List ℕ) (ok : refusal c w (length v) ≡ 0) where
+    aligned : w .address % 4 ≡ 0
+    unfolding offBoundary
+    aligned =
+        let e : not (eqb (w .address % 4) 0) ≡ false = rw (a-frame-write, in-mode) at (accepted-passed c w (length v) ok 6) in
+        eqb-true (w .address % 4) 0 (sym (not-not (eqb (w .address % 4) 0)) ∙ ap not e)
+
+    -- strokes of the pixel mask, the data and the colours, under every plane but the held ones
+    module _ (s : Strokes) (eo : s .op ≡ 3) (ew : s .width ≡ 32) (ee : s .enable ≡ c .mask .bits)
+        (em : (j : ℕ) → byte (s .mask) (j % 8) ≡ effectiveBy (2 ^ 32 - 1) (c .held) (0 + j))
+        (et : (j : ℕ) → patternByte (s .source) j
+        ≡ cond (bit (w .«data») (j % 32)) (byte (c .registers .foreground) ((0 + j) % 4)) (byte (c .registers .background) ((0 + j) % 4))) where
+      text-draws : Draws s (framePlan OpaqueStipple c w .op) (effective c) (planned (framePlan OpaqueStipple c w) c)
+      unfolding frameSpan
+      text-draws =
+          draws s _ (effective c) (planned (framePlan OpaqueStipple c w) c) (eo ∙ rw (registers-fit .1)) ew
+          (λ j.
+          let p : (0 + j) % 4 ≡ (w .address + j) % 4 = omega (arith, aligned) in
+          em j ∙ rw (registers-fit .2) (mask-again _ (c .held) (0 + j) (w .address + j) p))
+          (λ j h. ap (λ (x : ℕ). bit x (j % 32)) ee)
+          (λ j h.
+          let p : (0 + j) % 4 ≡ (w .address + j) % 4 = omega (arith, aligned) in
+          et j ∙ ap (λ (k : ℕ). cond (bit (w .«data») (j % 32)) (byte (c .registers .foreground) k) (byte (c .registers .background) k)) p)
+
+      pub text-drawn : {r : Tally} {v′ : List ℕ} → Lettered s (w .address) v r v′
+          → (v′ ≡ picture c w v) × (r .enabled ≡ count c w (length v))
+      unfolding frameSpan
+      text-drawn l =
+          let inside : w .address + 32 ≤ length v = subst (λ (p : Plan). p .first + p .width ≤ length v) text-plan (planned-inside c w v ok) in
+          let e = drew s _ (effective c) (planned (framePlan OpaqueStipple c w) c) text-draws (w .address) v (lettered-drew s (w .address) v eo ew inside l) refl inside in (
+            e .0 ∙ sym (planned-shows c w v ok ∙ ap (λ (p : Plan). drawn (p .op) (spanned (effective c) (planned p c)) v) text-plan),
+            e .1 ∙ sym (planned-counts c w v ok ∙ ap (λ (p : Plan). enabledIn (planned p c)) text-plan),
+          )
+
+    pub text-leaves : left UsesMask c w v ≡ next c w v
+    text-leaves = sym (planned-leaves c w v ok ∙ ap (λ (p : Plan). left (p .effect) c w v) text-plan)

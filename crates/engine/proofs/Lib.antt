@@ -1,0 +1,2 @@
+-- The law of the shorter way.
+pub mod Letters
