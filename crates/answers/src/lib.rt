@@ -1,5 +1,8 @@
 // A write and a run as a C program gives and gets them, on a card by value. The crates `host` and `host_run` take the card out of the program's memory,
 // call one of these each, and store the next card in place.
+ghost use mathlib.Core.Path.{_≡_};
+ghost use lib.ListN.{length};
+ghost use Rattle.engine.specs.Text.{keeps};
 ghost use Rattle.answers.specs.Answers.{writeOf, Wrote, Replayed};
 use card::Card;
 use card::Write;
@@ -21,10 +24,11 @@ pub struct Ran {
     pub rest: u32,
 }
 
-// The next card, and what a write answers.
+// The next card, what a write answers, and whether the next card is known to differ in its pixel mask alone.
 pub struct Written {
     pub card: Card,
     pub answer: Answer,
+    pub kept: bool,
 }
 
 // The card after, and what a run answers.
@@ -42,7 +46,8 @@ pub fn write_on(
     word: u32,
     vram: &mut [u8],
 ) -> Written
-    ensures { λ r. ⌜ Wrote card (writeOf space lanes address word) (now (vram .entry)) (r .answer) (r .card) (now (vram .exit)) ⌝ }
+    ensures { λ r. ⌜ Wrote card (writeOf space lanes address word) (now (vram .entry)) (r .answer) (r .card) (now (vram .exit))
+        × (r .kept ≡ keeps card (writeOf space lanes address word) (length (now (vram .entry)))) ⌝ }
 {
     let w = Write {
         space,
@@ -50,13 +55,17 @@ pub fn write_on(
         address,
         data: word,
     };
-    let a = engine::write(card, w, vram);
-    let next = a.card;
+    let told = engine::tell(card, w, vram);
+    let next = told.answer.card;
     let answer = Answer {
-        number: a.number,
-        count: a.tally.enabled,
+        number: told.answer.number,
+        count: told.answer.tally.enabled,
     };
-    Written { card: next, answer }
+    Written {
+        card: next,
+        answer,
+        kept: told.kept,
+    }
 }
 
 // A run, with the offset of what it left unread.

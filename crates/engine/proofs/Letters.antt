@@ -3,10 +3,11 @@ use mathlib.Core.Path.{_≡_, refl, ap, sym, _∙_, subst}
 use mathlib.Core.Bool.{Bool, true, false, cond, not, _&&_, false≢true}
 use mathlib.Core.List.{List}
 use Prim.Native.Nat.{ℕ, _+_, _-_, _%_, _^_, _≤_}
+use native.Mathlib.Decide.{ℕ-discrete}
 use native.Mathlib.Omega.{arith}
 use lib.Dec.{eqb}
 use lib.ListN.{length}
-use borrow.Author.Tests.{eqb-true}
+use borrow.Author.Tests.{eq-eqb, ne-eqb, eqb-true}
 use Rattle.raster.specs.Pixel.{bit}
 use Rattle.span.specs.Fragments.{drawn, byte}
 use Rattle.span.specs.Spans.{spanned, enabledIn}
@@ -22,7 +23,7 @@ use Rattle.rules.specs.Modes.{modeOf, effective, effectiveBy, frameSpan}
 use Rattle.rules.specs.Refusal.{offBoundary, refusal}
 use Rattle.rules.specs.Writes.{count, next, picture}
 use Rattle.rules.specs.declared.Mode.the-variants.{OpaqueStipple}
-use Rattle.rules.proofs.Outcome.{accepted-passed}
+use Rattle.rules.proofs.Outcome.{accepted-passed, next-refused}
 use Rattle.rules.proofs.Tests.{not-not}
 use Rattle.plan.specs.Plan.{planOf, framePlan, planned, left}
 use Rattle.plan.specs.declared.Effect.the-variants.{UsesMask}
@@ -30,7 +31,7 @@ use Rattle.plan.specs.declared.Plan.{Plan}
 use Rattle.plan.proofs.PlanNumber.{planned-inside}
 use Rattle.plan.proofs.PlanEffect.{planned-shows, planned-counts, planned-leaves}
 use Rattle.drawing.proofs.Sources.{mask-again}
-use Rattle.engine.specs.Text.{isText}
+use Rattle.engine.specs.Text.{isText, keeps}
 
 both : (a b : Bool) → a && b ≡ true → (a ≡ true) × (b ≡ true)
 both true b e = (refl, e)
@@ -96,3 +97,28 @@ module _ (c : Card) (w : Write) (t : isText c w ≡ true) where
 
     pub text-leaves : left UsesMask c w v ≡ next c w v
     text-leaves = sym (planned-leaves c w v ok ∙ ap (λ (p : Plan). left (p .effect) c w v) text-plan)
+
+-- ---- What is known of the card.
+
+pub keeps-refused : (c : Card) (w : Write) (n : ℕ) → (refusal c w n ≡ 0 → ⊥) → true ≡ keeps c w n
+unfolding keeps
+keeps-refused c w n refused = rw (ne-eqb _ _ refused)
+
+pub keeps-accepted : (c : Card) (w : Write) (n : ℕ) {b : Bool} → refusal c w n ≡ 0 → isText c w ≡ b → b ≡ keeps c w n
+unfolding keeps
+keeps-accepted c w n ok e = rw (eq-eqb _ _ ok) (sym e)
+
+-- a card with the pixel mask of another, and the rest of its own
+abbrev pub remasked : Card → Card → Card
+remasked c d = record { registers = c .registers; mask = d .mask; copier = c .copier; held = c .held }
+
+-- where a write keeps the card, the next one is that
+pub kept : (c : Card) (w : Write) (v : List ℕ) → keeps c w (length v) ≡ true → next c w v ≡ remasked c (next c w v)
+unfolding keeps left
+kept c w v k = go (ℕ-discrete (refusal c w (length v)) 0)
+  where
+    go : Dec (refusal c w (length v) ≡ 0) → next c w v ≡ remasked c (next c w v)
+    go (yes ok) =
+        let t : isText c w ≡ true = rw (eq-eqb _ _ ok) at k in
+        subst (λ (x : Card). x ≡ remasked c x) (text-leaves c w t v ok) refl
+    go (no refused) = subst (λ (x : Card). x ≡ remasked c x) (sym (next-refused c w v refused)) refl

@@ -6,7 +6,7 @@ ghost use lib.ListN.{length};
 ghost use Rattle.rules.specs.Refusal.{refusal};
 ghost use Rattle.plan.specs.Plan.{planOf};
 ghost use Rattle.engine.specs.Contract.{Written};
-ghost use Rattle.engine.specs.Text.{isText};
+ghost use Rattle.engine.specs.Text.{isText, keeps};
 use card::Card;
 use card::ONES;
 use card::REGISTERS;
@@ -26,6 +26,12 @@ pub struct Answer {
     pub number: u32,
     pub tally: Tally,
     pub card: Card,
+}
+
+// The same, and whether the next card is known to differ in its pixel mask alone, which whoever holds the card may then store alone.
+pub struct Told {
+    pub answer: Answer,
+    pub kept: bool,
 }
 
 // The plan of any write. A frame write never looks at the register table, a register write once.
@@ -100,21 +106,35 @@ fn is_text(card: Card, w: Write) -> bool
 // ---- One write.
 
 // A refused write answers its number with no pixel counted, and leaves the card and every byte of VRAM.
-pub fn write(card: Card, w: Write, vram: &mut [u8]) -> Answer
-    ensures { λ r. ⌜ Written card w (now (vram .entry)) r (now (vram .exit)) ⌝ }
+pub fn tell(card: Card, w: Write, vram: &mut [u8]) -> Told
+    ensures { λ r. ⌜ Written card w (now (vram .entry)) (r .answer) (now (vram .exit))
+        × (r .kept ≡ keeps card w (length (now (vram .entry)))) ⌝ }
 {
     let p = plan_of(card, w);
     let number = refusal::refuse(p, w, vram.len());
     if number != 0 {
         let tally = Tally::NONE;
-        return Answer {
+        let answer = Answer {
             number,
             tally,
             card,
         };
+        return Told { answer, kept: true };
     }
     if is_text(card, w) {
-        return text(card, w, vram);
+        let answer = text(card, w, vram);
+        return Told { answer, kept: true };
     }
-    by_plan(p, card, w, vram)
+    let answer = by_plan(p, card, w, vram);
+    Told {
+        answer,
+        kept: false,
+    }
+}
+
+pub fn write(card: Card, w: Write, vram: &mut [u8]) -> Answer
+    ensures { λ r. ⌜ Written card w (now (vram .entry)) r (now (vram .exit)) ⌝ }
+{
+    let told = tell(card, w, vram);
+    told.answer
 }

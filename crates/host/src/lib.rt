@@ -42,7 +42,12 @@ pub extern "C" fn zevkholtai_write(
         Wrote (now (card .entry)) (writeOf space lanes address word) (now (vram .entry)) r (now (card .exit)) (now (vram .exit)) ⌝ }
 {
     let s = answers::write_on(*card, space, lanes, address, word, vram);
-    *card = s.card;
+    if s.kept {
+        card.mask.bits = s.card.mask.bits;
+        card.mask.marked = s.card.mask.marked;
+    } else {
+        *card = s.card;
+    }
     s.answer
 }
 

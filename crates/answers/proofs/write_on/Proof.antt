@@ -3,8 +3,8 @@ use borrow.Author.Needs.{needs}
 use Rattle.answers.proofs.write_on.Statement.{statement}
 use Rattle.answers.proofs.write_on.Tie as tie
 
-write-requires : tie.Need-write-requires
-write-requires c κs = search needs
+tell-requires : tie.Need-tell-requires
+tell-requires c κs = search needs
 
 same-length : tie.Need-same-length
 same-length c = search needs
@@ -13,4 +13,4 @@ returns : tie.Need-returns
 returns c = search needs
 
 pub write-on-spec : {M : Type 1} → statement M
-write-on-spec = tie.close (tie.spec write-requires same-length returns)
+write-on-spec = tie.close (tie.spec tell-requires same-length returns)
