@@ -30,11 +30,11 @@ fn used_up(mask: Mask) -> u32
 pub fn mask_used(card: Card) -> Card
     ensures { λ r. ⌜ ((w : Write) (v : List ℕ) → r ≡ leftBy UsesMask card w v) ⌝ }
 {
-    let mut next = card;
+    let mut used = card;
     let bits = used_up(card.mask);
-    next.mask.bits = bits;
-    next.mask.marked = CLEAR;
-    next
+    used.mask.bits = bits;
+    used.mask.marked = CLEAR;
+    used
 }
 
 // The card that an effect leaves.

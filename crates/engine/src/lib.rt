@@ -28,7 +28,7 @@ pub struct Answer {
     pub card: Card,
 }
 
-// The same, and whether the next card is known to differ in its pixel mask alone, which whoever holds the card may then store alone.
+// The same, and whether no more of the card than its pixel mask has changed: whoever holds the card then stores that alone.
 pub struct Told {
     pub answer: Answer,
     pub kept: bool,
@@ -47,7 +47,7 @@ fn plan_of(card: Card, w: Write) -> Plan
 
 // ---- The two ways of an accepted write, under one contract.
 
-// Any write: its plan's effect and its plan's drawing.
+// Any write: the effect and the drawing of its plan.
 fn by_plan(p: Plan, card: Card, w: Write, vram: &mut [u8]) -> Answer
     requires { ⌜ (p ≡ planOf card w) × (refusal card w (length (now vram)) ≡ 0) ⌝ }
     ensures { λ r. ⌜ Written card w (now (vram .entry)) r (now (vram .exit)) ⌝ }
@@ -62,7 +62,7 @@ fn by_plan(p: Plan, card: Card, w: Write, vram: &mut [u8]) -> Answer
     }
 }
 
-// Text, the shorter way: no operation and no plane mask to go by, nothing of the plan.
+// Text, the shorter way (Ask 3): it goes by no operation, no plane mask and no plan. The held planes are kept as ever, by the mask.
 fn text(card: Card, w: Write, vram: &mut [u8]) -> Answer
     requires { ⌜ (isText card w ≡ true) × (refusal card w (length (now vram)) ≡ 0) ⌝ }
     ensures { λ r. ⌜ Written card w (now (vram .entry)) r (now (vram .exit)) ⌝ }
@@ -78,11 +78,11 @@ fn text(card: Card, w: Write, vram: &mut [u8]) -> Answer
         mask,
         width: 32,
     };
-    let tally = strokes::text_at(vram, w.address, s);
+    let drawn = strokes::text_at(vram, w.address, s);
     let next = effects::mask_used(card);
     Answer {
         number: 0,
-        tally,
+        tally: drawn,
         card: next,
     }
 }

@@ -1,6 +1,7 @@
 // The table of a pattern of strokes, made once before any pixel is drawn. What it holds stands in specs/Reduced.antt.
 ghost use mathlib.Core.Path.{_≡_};
 ghost use mathlib.Core.Bool.{cond};
+ghost use mathlib.Core.List.{[], _∷_};
 ghost use Prim.Native.Nat.{ℕ, _<_};
 ghost use Rattle.raster.specs.Pixel.{bit};
 ghost use Rattle.span.specs.Fragments.{stays, paint, byte};
@@ -27,6 +28,16 @@ fn masked(op: u8, mask: u64, bits: u8, source: u64) -> Reduced
     pixels::reduce(op, mask & words::widen(bits), source)
 }
 
+// Four reduced words as a table.
+fn of_four(a: Reduced, b: Reduced, c: Reduced, d: Reduced) -> Table
+    ensures { λ r. ⌜ (r .and ≡ a .and ∷ b .and ∷ c .and ∷ d .and ∷ []) × (r .xor ≡ a .xor ∷ b .xor ∷ c .xor ∷ d .xor ∷ []) ⌝ }
+{
+    Table {
+        and: [a.and, b.and, c.and, d.and],
+        xor: [a.xor, b.xor, c.xor, d.xor],
+    }
+}
+
 // The table of the strokes.
 pub fn digest(s: Strokes) -> Table
     ensures { λ r. ⌜ Makes r (s .op) (stroke s) ⌝ }
@@ -45,13 +56,10 @@ pub fn digest(s: Strokes) -> Table
         (s.enable / 0x100_0000 % 0x100) as u8,
         s.source[3],
     );
-    Table {
-        and: [a.and, b.and, c.and, d.and],
-        xor: [a.xor, b.xor, c.xor, d.xor],
-    }
+    of_four(a, b, c, d)
 }
 
-// The same of `masked` for operation 3, which takes the source: there is nothing to choose.
+// The same for operation 3, which takes the source: there is nothing to choose.
 fn taken(mask: u64, bits: u8, source: u64) -> Reduced
     ensures { λ r. ⌜ ((k : ℕ) → k < 8
         → (byte (r .and) k ≡ keeps 3 (cond (bit bits k) (paint (byte mask k) (byte source k)) stays))
@@ -72,8 +80,5 @@ pub fn copied(s: Strokes) -> Table
     let b = taken(s.mask, (s.enable / 0x100 % 0x100) as u8, s.source[1]);
     let c = taken(s.mask, (s.enable / 0x1_0000 % 0x100) as u8, s.source[2]);
     let d = taken(s.mask, (s.enable / 0x100_0000 % 0x100) as u8, s.source[3]);
-    Table {
-        and: [a.and, b.and, c.and, d.and],
-        xor: [a.xor, b.xor, c.xor, d.xor],
-    }
+    of_four(a, b, c, d)
 }

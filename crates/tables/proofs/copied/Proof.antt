@@ -43,15 +43,18 @@ element-copy-out-taken-4 c = search needs
 taken-requires-4 : tie.Need-taken-requires-4
 taken-requires-4 c κs = search needs
 
+of-four-requires : tie.Need-of-four-requires
+of-four-requires c κs = search needs
+
 returns : tie.Need-returns
 unfolding byte
 returns c =
-    let s = c .before .before .before .before .before .before .before .before .args .t1 in
-    quarters-make s 3 _ _ _ _
-    (record { enabling = sym (byte-zero (s .enable)); reduces = c .before .before .before .before .before .before .taken .ensures })
-    (record { enabling = refl; reduces = c .before .before .before .before .taken2 .ensures })
-    (record { enabling = refl; reduces = c .before .before .taken3 .ensures })
-    (record { enabling = refl; reduces = c .taken4 .ensures })
+    let s = c .before .before .before .before .before .before .before .before .before .args .t1 in
+    quarters-make s 3 _ _ _ _ _ (c .of-four .ensures)
+    (record { enabling = sym (byte-zero (s .enable)); reduces = c .before .before .before .before .before .before .before .taken .ensures })
+    (record { enabling = refl; reduces = c .before .before .before .before .before .taken2 .ensures })
+    (record { enabling = refl; reduces = c .before .before .before .taken3 .ensures })
+    (record { enabling = refl; reduces = c .before .taken4 .ensures })
 
 pub copied-spec : {M : Type 1} → statement M
 copied-spec =
@@ -69,4 +72,5 @@ copied-spec =
     cast-taken-4
     element-copy-out-taken-4
     taken-requires-4
+    of-four-requires
     returns)

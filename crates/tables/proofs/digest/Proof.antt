@@ -43,15 +43,18 @@ element-copy-out-masked-4 c = search needs
 masked-requires-4 : tie.Need-masked-requires-4
 masked-requires-4 c κs = search needs
 
+of-four-requires : tie.Need-of-four-requires
+of-four-requires c κs = search needs
+
 returns : tie.Need-returns
 unfolding byte
 returns c =
-    let s = c .before .before .before .before .before .before .before .before .args .t1 in
-    quarters-make s (s .op) _ _ _ _
-    (record { enabling = sym (byte-zero (s .enable)); reduces = c .before .before .before .before .before .before .masked .ensures })
-    (record { enabling = refl; reduces = c .before .before .before .before .masked2 .ensures })
-    (record { enabling = refl; reduces = c .before .before .masked3 .ensures })
-    (record { enabling = refl; reduces = c .masked4 .ensures })
+    let s = c .before .before .before .before .before .before .before .before .before .args .t1 in
+    quarters-make s (s .op) _ _ _ _ _ (c .of-four .ensures)
+    (record { enabling = sym (byte-zero (s .enable)); reduces = c .before .before .before .before .before .before .before .masked .ensures })
+    (record { enabling = refl; reduces = c .before .before .before .before .before .masked2 .ensures })
+    (record { enabling = refl; reduces = c .before .before .before .masked3 .ensures })
+    (record { enabling = refl; reduces = c .before .masked4 .ensures })
 
 pub digest-spec : {M : Type 1} → statement M
 digest-spec =
@@ -69,4 +72,5 @@ digest-spec =
     cast-masked-4
     element-copy-out-masked-4
     masked-requires-4
+    of-four-requires
     returns)
