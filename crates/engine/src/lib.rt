@@ -78,11 +78,12 @@ fn text(card: Card, w: Write, vram: &mut [u8]) -> Answer
         mask,
         width: 32,
     };
-    let drawn = strokes::text_at(vram, w.address, s);
+    strokes::text_at(vram, w.address, s);
+    let enabled = u32::count_ones(card.mask.bits);
     let next = effects::mask_used(card);
     Answer {
         number: 0,
-        tally: drawn,
+        tally: Tally { enabled },
         card: next,
     }
 }

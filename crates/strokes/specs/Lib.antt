@@ -1,3 +1,2 @@
--- Words and text in the span routine's contracts.
+-- Words in the span routine's contracts.
 pub mod Words
-pub mod Text

@@ -1,16 +1,17 @@
 // The span routine: strokes drawn into the lent part of VRAM that starts at the span's first pixel, eight pixels a word. It serves every
 // drawing mode.
 ghost use mathlib.Core.Path.{_≡_};
+ghost use mathlib.Core.Bool.{cond};
 ghost use mathlib.Core.List.{List};
 ghost use Prim.Native.Nat.{ℕ, _+_, _*_, _/_, _%_, _^_, _≤_, _<_, min};
 ghost use lib.Bits.{bitAnd, bitXor};
+ghost use lib.Dec.{leb};
 ghost use lib.ListN.{length, getD};
 ghost use lib.Seq.{sets};
 ghost use Rattle.raster.specs.Pixel.{bit};
-ghost use Rattle.span.specs.Fragments.{Fragment, drawn, before, counted, byte, listed};
+ghost use Rattle.span.specs.Fragments.{Fragment, drawn, before, from, counted, byte, listed};
 ghost use Rattle.span.specs.Strokes.{stroke, enabled, Drew};
 ghost use Rattle.tables.specs.Reduced.{keeps, flips, Makes};
-ghost use Rattle.strokes.specs.Text.{Lettered};
 use span::Strokes;
 use span::Tally;
 use tables::Table;
@@ -148,16 +149,16 @@ pub fn draw_at(vram: &mut [u8], first: usize, s: Strokes) -> Tally
 
 // ---- Text.
 
-// The shorter way of 32 pixels that take the source: a table with nothing to choose, the pattern once, no loop.
-pub fn text_at(vram: &mut [u8], address: u32, s: Strokes) -> Tally
-    ensures { λ r. ⌜ Lettered s address (now (vram .entry)) r (now (vram .exit)) ⌝ }
+// The shorter way of 32 pixels under operation 3, whatever that of the strokes is: a table with nothing to choose, the pattern once, no loop.
+// Nothing where they do not all lie inside.
+pub fn text_at(vram: &mut [u8], address: u32, s: Strokes)
+    ensures { λ _. ⌜ now (vram .exit) ≡ cond (leb (address + 32) (length (now (vram .entry))))
+        (drawn 3 (from address (before 32 (stroke s))) (now (vram .entry))) (now (vram .entry)) ⌝ }
 {
     let first = address as usize;
     if vram.len() < first + 32 {
-        return Tally::NONE;
+        return;
     }
     let t = tables::copied(s);
     pattern(&mut vram[first..], 0, t);
-    let enabled = count(s.enable, 32);
-    Tally { enabled }
 }

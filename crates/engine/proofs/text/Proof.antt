@@ -1,6 +1,8 @@
 -- `engine::text` meets its contract. Assumes nothing.
 use mathlib.Core.Path.{refl, sym, _∙_}
+use native.Mathlib.Omega.{arith}
 use denote.Ref.{now}
+use Rattle.span.specs.declared.Strokes.{Strokes}
 use Rattle.engine.proofs.Letters.{text-drawn, text-leaves}
 use borrow.Author.Needs.{needs}
 use Rattle.engine.proofs.text.Statement.{statement}
@@ -23,11 +25,12 @@ same-length c = search needs
 
 returns : tie.Need-returns
 returns c =
-    let a = c .before .before .before .before .before .before .before .before .args in
+    let a = c .before .before .before .before .before .before .before .before .before .args in
     let v = now (a .vram) in
-    let is = c .before .before .before .before .before .before .before .before .pre .0 in
-    let ok = c .before .before .before .before .before .before .before .before .pre .1 in
-    let drew = text-drawn (a .card) (a .w) is v ok _ refl refl refl (c .before .before .before .before .before .masks .ensures) (c .before .before .before .before .before .before .stippled .ensures) (c .before .before .before .text-at .ensures) in
+    let is = c .before .before .before .before .before .before .before .before .before .pre .0 in
+    let ok = c .before .before .before .before .before .before .before .before .before .pre .1 in
+    let s : Strokes = record { op = 3; enable = a .card .mask .bits; source = c .before .before .before .before .before .before .before .stippled .result; mask = c .before .before .before .before .before .before .masks .result; width = 32 } in
+    let drew = text-drawn (a .card) (a .w) is v ok s refl refl refl (c .before .before .before .before .before .before .masks .ensures) (c .before .before .before .before .before .before .before .stippled .ensures) (omega arith) (c .before .before .before .before .text-at .ensures) in
     record {
       number = sym ok;
       counts = drew .1;

@@ -17,7 +17,7 @@ add-if1 : tie.Need-add-if1
 add-if1 c = search needs
 
 returns : tie.Need-returns
-returns c = let e = lt-leb _ _ (c .if1 .taken) in record { shows = rw e; counts = rw e }
+returns c = rw (lt-leb _ _ (c .if1 .taken))
 
 copied-requires : tie.Need-copied-requires
 copied-requires c κs = search needs
@@ -34,36 +34,17 @@ part-pattern-end c = search needs
 pattern-requires : tie.Need-pattern-requires
 pattern-requires c κs = search needs
 
-count-requires : tie.Need-count-requires
-count-requires c κs = search needs
-
 same-length : tie.Need-same-length
 same-length c = search needs
 
 returns-2 : tie.Need-returns-2
 returns-2 c =
-    let a = c .before .before .before .before .before .before .before .before .args in
+    let a = c .before .before .before .before .before .before .before .args in
     let s = a .s in
-    let e = le-leb _ _ (c .before .before .before .before .before .before .if1 .left) in
-    record {
-      shows = rw e
-          (put-drawn 3 (a .address) (before 32 (stroke s)) (now (a .vram)) _ (omega arith)
-          (c .before .before .before .pattern .ensures 3 (stroke s) (c .before .before .before .before .before .copied .ensures) _
-          (sym (drawn-none 3 (before 0 (stroke s)) _ (λ p l. before-past 0 (stroke s) (omega arith))))));
-      counts = rw e (c .count .ensures);
-    }
+    rw (le-leb _ _ (c .before .before .before .before .before .if1 .left))
+    (put-drawn 3 (a .address) (before 32 (stroke s)) (now (a .vram)) _ (omega arith)
+    (c .before .before .pattern .ensures 3 (stroke s) (c .before .before .before .before .copied .ensures) _
+    (sym (drawn-none 3 (before 0 (stroke s)) _ (λ p l. before-past 0 (stroke s) (omega arith))))))
 
 pub text-at-spec : {M : Type 1} → statement M
-text-at-spec =
-    tie.close
-    (tie.spec
-    add-if1
-    returns
-    copied-requires
-    sub-pattern
-    part-pattern-start
-    part-pattern-end
-    pattern-requires
-    count-requires
-    same-length
-    returns-2)
+text-at-spec = tie.close (tie.spec add-if1 returns copied-requires sub-pattern part-pattern-start part-pattern-end pattern-requires same-length returns-2)
