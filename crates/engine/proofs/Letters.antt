@@ -2,18 +2,18 @@
 use mathlib.Core.Path.{_≡_, refl, ap, sym, _∙_, subst}
 use mathlib.Core.Bool.{Bool, true, false, cond, not, _&&_, false≢true}
 use mathlib.Core.List.{List}
-use Prim.Native.Nat.{ℕ, _+_, _-_, _%_, _^_, _≤_, _<_}
+use Prim.Native.Nat.{ℕ, _+_, _-_, _%_, _^_, _≤_}
 use native.Mathlib.Decide.{ℕ-discrete}
 use native.Mathlib.Omega.{arith}
-use lib.Count.{ones}
 use lib.Dec.{eqb, leb}
 use lib.ListN.{length}
 use borrow.Author.Tests.{eq-eqb, ne-eqb, eqb-true}
 use Rattle.raster.specs.Pixel.{bit}
-use Rattle.span.specs.Fragments.{drawn, before, from, byte}
+use Rattle.span.specs.Fragments.{drawn, before, from, counted, byte}
 use Rattle.span.specs.Spans.{spanned, enabledIn}
-use Rattle.span.specs.Strokes.{patternByte, stroke, Draws}
+use Rattle.span.specs.Strokes.{patternByte, stroke, enabled, Draws}
 use Rattle.span.specs.declared.Strokes.{Strokes}
+use Rattle.span.specs.declared.Tally.{Tally}
 use Rattle.span.proofs.Spans.{draws, drew}
 use Rattle.strokes.proofs.Letters.{lettered}
 use Rattle.card.specs.declared.Card.{Card}
@@ -84,12 +84,13 @@ module _ (c : Card) (w : Write) (t : isText c w ≡ true) where
           let p : (0 + j) % 4 ≡ (w .address + j) % 4 = omega (arith, aligned) in
           et j ∙ ap (λ (k : ℕ). cond (bit (w .«data») (j % 32)) (byte (c .registers .foreground) k) (byte (c .registers .background) k)) p)
 
-      pub text-drawn : {v′ : List ℕ} → s .enable < 2 ^ 32 → v′ ≡ cond (leb (w .address + 32) (length v)) (drawn 3 (from (w .address) (before 32 (stroke s))) v) v
-          → (v′ ≡ picture c w v) × (ones (s .enable) ≡ count c w (length v))
+      pub text-drawn : {r : Tally} {v′ : List ℕ}
+          → v′ ≡ cond (leb (w .address + 32) (length v)) (drawn 3 (from (w .address) (before 32 (stroke s))) v) v → r .enabled ≡ counted 32 (enabled s)
+          → (v′ ≡ picture c w v) × (r .enabled ≡ count c w (length v))
       unfolding frameSpan
-      text-drawn fits l =
+      text-drawn l n =
           let inside : w .address + 32 ≤ length v = subst (λ (p : Plan). p .first + p .width ≤ length v) text-plan (planned-inside c w v ok) in
-          let e = drew s _ (effective c) (planned (framePlan OpaqueStipple c w) c) text-draws (w .address) v (lettered s (w .address) v eo ew fits inside l) refl inside in (
+          let e = drew s _ (effective c) (planned (framePlan OpaqueStipple c w) c) text-draws (w .address) v (lettered s (w .address) v eo ew inside l n) refl inside in (
             e .0 ∙ sym (planned-shows c w v ok ∙ ap (λ (p : Plan). drawn (p .op) (spanned (effective c) (planned p c)) v) text-plan),
             e .1 ∙ sym (planned-counts c w v ok ∙ ap (λ (p : Plan). enabledIn (planned p c)) text-plan),
           )

@@ -2,7 +2,10 @@
 // What a write means stands in the crate `rules`; what is promised here stands in specs/.
 ghost use mathlib.Core.Path.{_≡_};
 ghost use mathlib.Core.Bool.{true};
+ghost use Prim.Native.Nat.{_%_};
 ghost use lib.ListN.{length};
+ghost use Rattle.raster.specs.Pixel.{bit};
+ghost use Rattle.span.specs.Fragments.{counted};
 ghost use Rattle.rules.specs.Refusal.{refusal};
 ghost use Rattle.plan.specs.Plan.{planOf};
 ghost use Rattle.engine.specs.Contract.{Written};
@@ -62,6 +65,13 @@ fn by_plan(p: Plan, card: Card, w: Write, vram: &mut [u8]) -> Answer
     }
 }
 
+// How many of 32 pixels a word enables.
+fn enabled_by(word: u32) -> u32
+    ensures { λ r. ⌜ r ≡ counted 32 (λ j. bit word (j % 32)) ⌝ }
+{
+    u32::count_ones(word)
+}
+
 // Text, the shorter way (Ask 3): it goes by no operation, no plane mask and no plan. The held planes are kept as ever, by the mask.
 fn text(card: Card, w: Write, vram: &mut [u8]) -> Answer
     requires { ⌜ (isText card w ≡ true) × (refusal card w (length (now vram)) ≡ 0) ⌝ }
@@ -69,17 +79,19 @@ fn text(card: Card, w: Write, vram: &mut [u8]) -> Answer
 {
     let foreground = card.registers.foreground;
     let background = card.registers.background;
-    let source = patterns::stippled(w.data, foreground, background, 0);
+    let pixels = card.mask.bits;
+    let bits = w.data;
+    let source = patterns::stippled(bits, foreground, background, 0);
     let mask = patterns::masks(ONES, card.held, 0);
     let s = Strokes {
         op: COPY,
-        enable: card.mask.bits,
+        enable: pixels,
         source,
         mask,
         width: 32,
     };
     strokes::text_at(vram, w.address, s);
-    let enabled = u32::count_ones(card.mask.bits);
+    let enabled = enabled_by(pixels);
     let next = effects::mask_used(card);
     Answer {
         number: 0,

@@ -1,6 +1,5 @@
 -- `engine::text` meets its contract. Assumes nothing.
 use mathlib.Core.Path.{refl, sym, _∙_}
-use native.Mathlib.Omega.{arith}
 use denote.Ref.{now}
 use Rattle.span.specs.declared.Strokes.{Strokes}
 use Rattle.engine.proofs.Letters.{text-drawn, text-leaves}
@@ -17,6 +16,9 @@ masks-requires c κs = search needs
 text-at-requires : tie.Need-text-at-requires
 text-at-requires c κs = search needs
 
+enabled-by-requires : tie.Need-enabled-by-requires
+enabled-by-requires c κs = search needs
+
 mask-used-requires : tie.Need-mask-used-requires
 mask-used-requires c κs = search needs
 
@@ -30,7 +32,8 @@ returns c =
     let is = c .before .before .before .before .before .before .before .before .before .pre .0 in
     let ok = c .before .before .before .before .before .before .before .before .before .pre .1 in
     let s : Strokes = record { op = 3; enable = a .card .mask .bits; source = c .before .before .before .before .before .before .before .stippled .result; mask = c .before .before .before .before .before .before .masks .result; width = 32 } in
-    let drew = text-drawn (a .card) (a .w) is v ok s refl refl refl (c .before .before .before .before .before .before .masks .ensures) (c .before .before .before .before .before .before .before .stippled .ensures) (omega arith) (c .before .before .before .before .text-at .ensures) in
+    let drew = text-drawn (a .card) (a .w) is v ok s refl refl refl (c .before .before .before .before .before .before .masks .ensures) (c .before .before .before .before .before .before .before .stippled .ensures)
+    {r = record { enabled = c .before .enabled-by .result }} (c .before .before .before .before .text-at .ensures) (c .before .enabled-by .ensures) in
     record {
       number = sym ok;
       counts = drew .1;
@@ -39,4 +42,4 @@ returns c =
     }
 
 pub text-spec : {M : Type 1} → statement M
-text-spec = tie.close (tie.spec stippled-requires masks-requires text-at-requires mask-used-requires same-length returns)
+text-spec = tie.close (tie.spec stippled-requires masks-requires text-at-requires enabled-by-requires mask-used-requires same-length returns)
