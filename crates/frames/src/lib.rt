@@ -1,6 +1,6 @@
 // The plan of a frame write: one arm for each mode.
 ghost use mathlib.Core.Path.{_≡_};
-ghost use Rattle.rules.specs.Modes.{modeOf};
+ghost use Rattle.rules.specs.Modes.{modeOf, fillLow, fillFirst, fillWidth};
 ghost use Rattle.plan.specs.Plan.{framePlan, drawingPlan, copyPlan, halvedPlan, rotated as rotatedBy};
 ghost use Rattle.plan.specs.declared.Paint.the-variants.{Stippled, Tiled};
 use bounds::ALL_LANES;
@@ -33,11 +33,6 @@ pub fn plan(card: Card, w: Write) -> Plan
     let pixels = card.mask.bits;
     let data = w.data;
     let address = w.address as usize;
-    // of a fill: data bits 17:16 are added to the address and slide the mask, bits 10:0 are the pixels less one
-    let low = data / 65536 % 4;
-    let first = address + low as usize;
-    let width = data % 2048 + 1;
-    let fill = rotated(registers.fill, low);
     let faults = Faults {
         lanes: w.lanes != ALL_LANES,
         register: false,
@@ -63,20 +58,23 @@ pub fn plan(card: Card, w: Write) -> Plan
             drawing(faults, address, 32, op, data, paint)
         }
         Mode::OpaqueFill => {
-            let paint = stipple(fill, foreground, background, first);
-            drawing(faults, first, width, op, ONES, paint)
+            let f = fill_of(registers.fill, w);
+            let paint = stipple(f.mask, foreground, background, f.first);
+            drawing(faults, f.first, f.width, op, ONES, paint)
         }
         Mode::TransparentFill => {
-            let paint = tile(foreground, foreground, first);
-            drawing(faults, first, width, op, fill, paint)
+            let f = fill_of(registers.fill, w);
+            let paint = tile(foreground, foreground, f.first);
+            drawing(faults, f.first, f.width, op, f.mask, paint)
         }
         Mode::BlockStipple => {
             let paint = tile(registers.block[0], registers.block[1], address);
             drawing(faults, address, 32, COPY, data, paint)
         }
         Mode::BlockFill => {
-            let paint = tile(registers.block[0], registers.block[1], first);
-            drawing(faults, first, width, COPY, fill, paint)
+            let f = fill_of(registers.fill, w);
+            let paint = tile(registers.block[0], registers.block[1], f.first);
+            drawing(faults, f.first, f.width, COPY, f.mask, paint)
         }
         Mode::Copy => of_copy(faults, card.copier.writing, w, op),
         Mode::Unlisted => {
@@ -84,6 +82,26 @@ pub fn plan(card: Card, w: Write) -> Plan
             unlisted.mode = true;
             drawing(unlisted, 0, 0, op, 0, Paint::Half)
         }
+    }
+}
+
+// Where a fill's span starts, how wide it is, and its mask with the bit of its first pixel first. In fill modes alone: text does not wait for it.
+struct Fill {
+    first: usize,
+    width: u32,
+    mask: u32,
+}
+
+// Data bits 17:16 are added to the address and slide the mask, bits 10:0 are the pixels less one.
+fn fill_of(mask: u32, w: Write) -> Fill
+    ensures { λ r. ⌜ (r .first ≡ fillFirst w) × (r .width ≡ fillWidth w) × (r .mask ≡ rotatedBy mask (fillLow w)) ⌝ }
+{
+    let low = w.data / 65536 % 4;
+    let mask = rotated(mask, low);
+    Fill {
+        first: w.address as usize + low as usize,
+        width: w.data % 2048 + 1,
+        mask,
     }
 }
 

@@ -14,18 +14,6 @@ cast-op c = search needs
 cast-address : tie.Need-cast-address
 cast-address c = search needs
 
-cast-first : tie.Need-cast-first
-cast-first c = search needs
-
-add-first : tie.Need-add-first
-add-first c = search needs
-
-add-width : tie.Need-add-width
-add-width c = search needs
-
-rotated-requires : tie.Need-rotated-requires
-rotated-requires c κs = search needs
-
 enum-told : tie.Need-enum-told
 enum-told c = search needs
 
@@ -59,6 +47,9 @@ drawing-requires-3 c κs = search needs
 enum-told-4 : tie.Need-enum-told-4
 enum-told-4 c = search needs
 
+fill-of-requires : tie.Need-fill-of-requires
+fill-of-requires c κs = search needs
+
 stipple-requires-2 : tie.Need-stipple-requires-2
 stipple-requires-2 c κs = search needs
 
@@ -67,6 +58,9 @@ drawing-requires-4 c κs = search needs
 
 enum-told-5 : tie.Need-enum-told-5
 enum-told-5 c = search needs
+
+fill-of-requires-2 : tie.Need-fill-of-requires-2
+fill-of-requires-2 c κs = search needs
 
 tile-requires-3 : tie.Need-tile-requires-3
 tile-requires-3 c κs = search needs
@@ -91,6 +85,9 @@ drawing-requires-6 c κs = search needs
 
 enum-told-7 : tie.Need-enum-told-7
 enum-told-7 c = search needs
+
+fill-of-requires-3 : tie.Need-fill-of-requires-3
+fill-of-requires-3 c κs = search needs
 
 element-copy-out-tile-3 : tie.Need-element-copy-out-tile-3
 element-copy-out-tile-3 c = search needs
@@ -118,39 +115,39 @@ drawing-requires-8 c κs = search needs
 
 returns : tie.Need-returns
 unfolding frameSpan
-returns c = c .drawing .ensures ∙ rw (← (c .before .before .before .before .before .before .before .before .before .mode-of .ensures), c .before .before .before .enum-told .given .1, c .before .tile .ensures)
+returns c = c .drawing .ensures ∙ rw (← (c .before .before .before .before .before .before .before .before .mode-of .ensures), c .before .before .before .enum-told .given .1, c .before .tile .ensures)
 
 returns-2 : tie.Need-returns-2
 unfolding frameSpan
-returns-2 c = c .drawing2 .ensures ∙ rw (← (c .before .before .before .before .before .before .before .before .mode-of .ensures), c .before .before .enum-told2 .given .1, c .before .stipple .ensures)
+returns-2 c = c .drawing2 .ensures ∙ rw (← (c .before .before .before .before .before .before .before .mode-of .ensures), c .before .before .enum-told2 .given .1, c .before .stipple .ensures)
 
 returns-3 : tie.Need-returns-3
 unfolding frameSpan
-returns-3 c = c .drawing3 .ensures ∙ rw (← (c .before .before .before .before .before .before .before .before .mode-of .ensures), c .before .before .enum-told3 .given .1, c .before .tile2 .ensures)
+returns-3 c = c .drawing3 .ensures ∙ rw (← (c .before .before .before .before .before .before .before .mode-of .ensures), c .before .before .enum-told3 .given .1, c .before .tile2 .ensures)
 
 returns-4 : tie.Need-returns-4
 unfolding frameSpan
-returns-4 c = c .drawing4 .ensures ∙ rw (← (c .before .before .before .before .before .before .before .before .mode-of .ensures), c .before .before .enum-told4 .given .1) (simp (c .before .stipple2 .ensures, c .before .before .before .before .before .before .rotated .ensures))
+returns-4 c = c .drawing4 .ensures ∙ rw (← (c .before .before .before .before .before .before .before .before .mode-of .ensures), c .before .before .before .enum-told4 .given .1) (simp (c .before .stipple2 .ensures, c .before .before .fill-of .ensures .0, c .before .before .fill-of .ensures .1, c .before .before .fill-of .ensures .2))
 
 returns-5 : tie.Need-returns-5
 unfolding frameSpan
-returns-5 c = c .drawing5 .ensures ∙ rw (← (c .before .before .before .before .before .before .before .before .mode-of .ensures), c .before .before .enum-told5 .given .1) (simp (c .before .tile3 .ensures, c .before .before .before .before .before .before .rotated .ensures))
+returns-5 c = c .drawing5 .ensures ∙ rw (← (c .before .before .before .before .before .before .before .before .mode-of .ensures), c .before .before .before .enum-told5 .given .1) (simp (c .before .tile3 .ensures, c .before .before .fill-of2 .ensures .0, c .before .before .fill-of2 .ensures .1, c .before .before .fill-of2 .ensures .2))
 
 returns-6 : tie.Need-returns-6
 unfolding frameSpan
-returns-6 c = c .drawing6 .ensures ∙ rw (← (c .before .before .before .before .before .before .before .before .before .before .mode-of .ensures), c .before .before .before .before .enum-told6 .given .1, c .before .tile4 .ensures)
+returns-6 c = c .drawing6 .ensures ∙ rw (← (c .before .before .before .before .before .before .before .before .before .mode-of .ensures), c .before .before .before .before .enum-told6 .given .1, c .before .tile4 .ensures)
 
 returns-7 : tie.Need-returns-7
 unfolding frameSpan
-returns-7 c = c .drawing7 .ensures ∙ rw (← (c .before .before .before .before .before .before .before .before .before .before .mode-of .ensures), c .before .before .before .before .enum-told7 .given .1) (simp (c .before .tile5 .ensures, c .before .before .before .before .before .before .before .before .rotated .ensures))
+returns-7 c = c .drawing7 .ensures ∙ rw (← (c .before .before .before .before .before .before .before .before .before .before .mode-of .ensures), c .before .before .before .before .before .enum-told7 .given .1) (simp (c .before .tile5 .ensures, c .before .before .before .before .fill-of3 .ensures .0, c .before .before .before .before .fill-of3 .ensures .1, c .before .before .before .before .fill-of3 .ensures .2))
 
 returns-8 : tie.Need-returns-8
 unfolding frameSpan
-returns-8 c = c .of-copy .ensures ∙ rw (← (c .before .before .before .before .before .before .before .mode-of .ensures), c .before .enum-told8 .given .1)
+returns-8 c = c .of-copy .ensures ∙ rw (← (c .before .before .before .before .before .before .mode-of .ensures), c .before .enum-told8 .given .1)
 
 returns-9 : tie.Need-returns-9
 unfolding frameSpan
-returns-9 c = c .drawing8 .ensures ∙ rw (← (c .before .before .before .before .before .before .before .mode-of .ensures), c .before .enum-told9 .given .1)
+returns-9 c = c .drawing8 .ensures ∙ rw (← (c .before .before .before .before .before .before .mode-of .ensures), c .before .enum-told9 .given .1)
 
 pub plan-spec : {M : Type 1} → statement M
 plan-spec =
@@ -159,10 +156,6 @@ plan-spec =
     mode-of-requires
     cast-op
     cast-address
-    cast-first
-    add-first
-    add-width
-    rotated-requires
     enum-told
     cast-enable
     tile-requires
@@ -174,9 +167,11 @@ plan-spec =
     tile-requires-2
     drawing-requires-3
     enum-told-4
+    fill-of-requires
     stipple-requires-2
     drawing-requires-4
     enum-told-5
+    fill-of-requires-2
     tile-requires-3
     drawing-requires-5
     enum-told-6
@@ -185,6 +180,7 @@ plan-spec =
     tile-requires-4
     drawing-requires-6
     enum-told-7
+    fill-of-requires-3
     element-copy-out-tile-3
     element-copy-out-tile-4
     tile-requires-5
