@@ -1,6 +1,5 @@
 -- `strokes::text_at` meets its contract: one whole pattern in the part, put back. Assumes nothing.
-use mathlib.Core.Path.{_≡_, sym}
-use mathlib.Core.List.{List}
+use mathlib.Core.Path.{sym}
 use native.Mathlib.Omega.{arith}
 use denote.Ref.{now}
 use Rattle.span.specs.Fragments.{before}
