@@ -52,18 +52,14 @@ pub fn left(effect: Effect, card: Card, w: Write, vram: &[u8]) -> Card
                 loaded: CLEAR,
                 writing: SET,
             };
-            let bits = used_up(card.mask);
-            next.mask.bits = bits;
-            next.mask.marked = CLEAR;
-            next.copier = copier;
-            next
+            let mut used = mask_used(card);
+            used.copier = copier;
+            used
         }
         Effect::DrawsDestination => {
-            let bits = used_up(card.mask);
-            next.mask.bits = bits;
-            next.mask.marked = CLEAR;
-            next.copier.writing = CLEAR;
-            next
+            let mut used = mask_used(card);
+            used.copier.writing = CLEAR;
+            used
         }
         Effect::Stores { register, value } => storing::store(card, register, value),
         Effect::Loads => {

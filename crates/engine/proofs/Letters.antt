@@ -1,6 +1,6 @@
--- Text, drawn and counted the shorter way, is what the definitions say of its write. Assumes that the write is text and is accepted.
+-- Text, drawn and counted the shorter way, is what the definitions say of its write; and where a write keeps the card. The former assumes that the write is text and is accepted.
 use mathlib.Core.Path.{_≡_, refl, ap, sym, _∙_, subst}
-use mathlib.Core.Bool.{Bool, true, false, cond, not, _&&_, false≢true}
+use mathlib.Core.Bool.{Bool, true, false, cond, not}
 use mathlib.Core.List.{List}
 use Prim.Native.Nat.{ℕ, _+_, _-_, _%_, _^_, _≤_}
 use native.Mathlib.Decide.{ℕ-discrete}
@@ -23,7 +23,7 @@ use Rattle.rules.specs.Refusal.{offBoundary, refusal}
 use Rattle.rules.specs.Writes.{count, next, picture}
 use Rattle.rules.specs.declared.Mode.the-variants.{OpaqueStipple}
 use Rattle.rules.proofs.Outcome.{accepted-passed, next-refused}
-use Rattle.rules.proofs.Tests.{not-not}
+use Rattle.rules.proofs.Tests.{not-not, both}
 use Rattle.plan.specs.Plan.{planOf, framePlan, planned, left}
 use Rattle.plan.specs.declared.Effect.the-variants.{UsesMask}
 use Rattle.plan.specs.declared.Plan.{Plan}
@@ -32,25 +32,19 @@ use Rattle.plan.proofs.PlanEffect.{planned-shows, planned-counts, planned-leave
 use Rattle.drawing.proofs.Sources.{mask-again}
 use Rattle.engine.specs.Text.{isText, keeps}
 
-both : (a b : Bool) → a && b ≡ true → (a ≡ true) × (b ≡ true)
-both true b e = (refl, e)
-both false b e = absurd (false≢true e)
-
 module _ (c : Card) (w : Write) (t : isText c w ≡ true) where
   -- what the test says
   a-frame-write : eqb (w .space) 1 ≡ false
   unfolding isText
-  a-frame-write = sym (not-not (eqb (w .space) 1)) ∙ ap not (both (not (eqb (w .space) 1)) _ t .0)
+  a-frame-write = let (f, r) = both (not (eqb (w .space) 1)) _ t in sym (not-not (eqb (w .space) 1)) ∙ ap not f
 
   registers-fit : (c .registers .mode ≡ 1) × (c .registers .raster ≡ 3) × (c .registers .plane ≡ 2 ^ 32 - 1)
   unfolding isText
   registers-fit =
-      let rest = both (not (eqb (w .space) 1)) _ t .1 in
-      let last = both (eqb (c .registers .mode) 1) _ rest .1 in (
-        eqb-true (c .registers .mode) 1 (both (eqb (c .registers .mode) 1) _ rest .0),
-        eqb-true (c .registers .raster) 3 (both (eqb (c .registers .raster) 3) _ last .0),
-        eqb-true (c .registers .plane) (2 ^ 32 - 1) (both (eqb (c .registers .raster) 3) _ last .1),
-      )
+      let (f, r) = both (not (eqb (w .space) 1)) _ t in
+      let (m, q) = both (eqb (c .registers .mode) 1) _ r in
+      let (o, p) = both (eqb (c .registers .raster) 3) _ q in
+      (eqb-true _ _ m, eqb-true _ _ o, eqb-true _ _ p)
 
   in-mode : modeOf (c .registers .mode) ≡ OpaqueStipple
   unfolding modeOf

@@ -1,2 +1,2 @@
--- The law of the shorter way.
+-- The laws of the shorter way.
 pub mod Letters

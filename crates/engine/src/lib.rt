@@ -118,7 +118,7 @@ fn is_text(card: Card, w: Write) -> bool
 
 // ---- One write.
 
-// A refused write answers its number with no pixel counted, and leaves the card and every byte of VRAM.
+// A refused write answers its number with no pixel counted, and leaves the card and every byte of VRAM. Beside the answer it says what a host need not store.
 pub fn tell(card: Card, w: Write, vram: &mut [u8]) -> Told
     ensures { λ r. ⌜ Written card w (now (vram .entry)) (r .answer) (now (vram .exit))
         × (r .kept ≡ keeps card w (length (now (vram .entry)))) ⌝ }
@@ -145,6 +145,7 @@ pub fn tell(card: Card, w: Write, vram: &mut [u8]) -> Told
     }
 }
 
+// The answer alone.
 pub fn write(card: Card, w: Write, vram: &mut [u8]) -> Answer
     ensures { λ r. ⌜ Written card w (now (vram .entry)) r (now (vram .exit)) ⌝ }
 {

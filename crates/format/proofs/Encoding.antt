@@ -8,10 +8,11 @@ use lib.ListN.{length, getD, drop}
 use lib.Seq.{drop-length}
 use borrow.Author.Tests.{eqb-true}
 use Rattle.span.specs.Fragments.{Bytes}
+use Rattle.rules.proofs.Tests.{both}
 use Rattle.format.specs.Bytes.{word, bytes}
 use Rattle.format.specs.Traces.{header, entry, entries, encoded, writeAt, writesAt, paddedAt, entryCount, writes, wellFormed, isTrace}
 use Rattle.format.proofs.Bytes.{bytes-word, drop-four, after}
-use Rattle.format.proofs.Tested.{both, formed, Traced, traced, counted}
+use Rattle.format.proofs.Tested.{formed, Traced, traced, counted}
 
 module _ (v : List ℕ) (fits : Bytes v) where
   -- one entry

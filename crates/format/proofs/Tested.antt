@@ -7,12 +7,9 @@ use native.Mathlib.Omega.{arith}
 use lib.ListN.{length, drop, length-drop}
 use borrow.Author.Tests.{eqb-true, leb-true, not-true}
 use Rattle.rules.specs.Refusal.{badLength}
+use Rattle.rules.proofs.Tests.{both}
 use Rattle.format.specs.Bytes.{word}
 use Rattle.format.specs.Traces.{largest, entryCount, paddedAt, wellFormed, goodHeader, isTrace}
-
-pub both : (a b : Bool) → a && b ≡ true → (a ≡ true) × (b ≡ true)
-both true b e = (refl, e)
-both false b e = (cc, cc)
 
 pub record Formed (part : List ℕ) : Type 0 where
   pub whole : length part ≡ 12 * entryCount part

@@ -85,14 +85,14 @@ pub fn plan(card: Card, w: Write) -> Plan
     }
 }
 
-// Where a fill's span starts, how wide it is, and its mask with the bit of its first pixel first. In fill modes alone: text does not wait for it.
+// Where a fill's span starts, how wide it is, and its mask with the bit of its first pixel first.
 struct Fill {
     first: usize,
     width: u32,
     mask: u32,
 }
 
-// Data bits 17:16 are added to the address and slide the mask, bits 10:0 are the pixels less one.
+// Data bits 17:16 are added to the address and slide the mask, bits 10:0 are the pixels less one. Made in fill modes alone, so that no other pays for it.
 fn fill_of(mask: u32, w: Write) -> Fill
     ensures { λ r. ⌜ (r .first ≡ fillFirst w) × (r .width ≡ fillWidth w) × (r .mask ≡ rotatedBy mask (fillLow w)) ⌝ }
 {

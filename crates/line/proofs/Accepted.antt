@@ -14,7 +14,8 @@ use Rattle.card.specs.declared.Write.{Write}
 use Rattle.rules.specs.Refusal.{badLength}
 use Rattle.format.specs.Bytes.{word}
 use Rattle.format.specs.Traces.{writeAt, writesAt, paddedAt, entryCount, writes, wellFormed, goodHeader, isTrace, checkPart}
-use Rattle.format.proofs.Tested.{both, headed, traced, formed, counted}
+use Rattle.rules.proofs.Tests.{both}
+use Rattle.format.proofs.Tested.{headed, traced, formed, counted}
 use Rattle.format.proofs.HeaderTests.{by-entries}
 use Rattle.format.proofs.Padding.{by-padding}
 use Rattle.format.proofs.Decoding.{writesAt-drop, paddedAt-drop}

@@ -12,7 +12,8 @@ use Rattle.card.specs.declared.Write.{Write}
 use Rattle.demands.proofs.Counting.{count-bound}
 use Rattle.demands.proofs.Demand1.{same-length}
 use Rattle.format.specs.Traces.{largest}
-use Rattle.format.proofs.Tested.{both, headed}
+use Rattle.rules.proofs.Tests.{both}
+use Rattle.format.proofs.Tested.{headed}
 use Rattle.trace.specs.Run.{State, answer, apply, refuse, ran}
 use Rattle.line.specs.declared.Reader.{Reader}
 use Rattle.line.specs.Serial.{newReader, Standing, stateOf, awaited, complete, waits, opens, draws, byte, reads, sound}

@@ -13,7 +13,7 @@ use borrow.Author.Tests.{eqb-true, leb-true, not-true}
 use Rattle.card.specs.Registers.{isSet}
 use Rattle.card.specs.declared.Write.{Write}
 use Rattle.format.specs.Traces.{writeAt}
-use Rattle.format.proofs.Tested.{both}
+use Rattle.rules.proofs.Tests.{both}
 use Rattle.format.proofs.Decoding.{writeAt-drop}
 use Rattle.line.specs.declared.Reader.{Reader}
 use Rattle.line.specs.Serial.{Standing, complete, draws, byte, reads, sound}

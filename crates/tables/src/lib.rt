@@ -59,7 +59,7 @@ pub fn digest(s: Strokes) -> Table
     of_four(a, b, c, d)
 }
 
-// The same for operation 3, which takes the source: there is nothing to choose.
+// As `masked`, for operation 3, which takes the source: there is nothing to choose.
 fn taken(mask: u64, bits: u8, source: u64) -> Reduced
     ensures { λ r. ⌜ ((k : ℕ) → k < 8
         → (byte (r .and) k ≡ keeps 3 (cond (bit bits k) (paint (byte mask k) (byte source k)) stays))

@@ -9,7 +9,8 @@ use lib.Dec.{eqb}
 use lib.ListN.{length, getD, drop, length-drop, drop-of-length-le}
 use Rattle.format.specs.Traces.{entryCount, writesAt, paddedAt, writes, wellFormed}
 use Rattle.format.proofs.Padding.{by-padding}
-use Rattle.format.proofs.Tested.{both, Formed}
+use Rattle.rules.proofs.Tests.{both}
+use Rattle.format.proofs.Tested.{Formed}
 use Rattle.format.proofs.Decoding.{writesAt-drop, paddedAt-drop}
 use Rattle.trace.specs.Run.{unread}
 

@@ -1,5 +1,5 @@
 //! The font of the text rows: Shinonome Gothic 16, medium, the cells of 8 by 16 for Latin 1 (`shnm8x16a`), by Yasuyuki Furukawa and
-//! the /efont/ project. The font names its copyright "Public Domain"; its licence lets anyone change it, convert it to other forms,
+//! the /efont/ project; from Debian's package xfonts-shinonome. The font names its copyright "Public Domain"; its licence lets anyone change it, convert it to other forms,
 //! embed it and hand it on, without any warranty.
 
 /// The printable characters of ASCII, from the blank on: sixteen rows each, the upper one first. Bit 0 is the leftmost pixel, as in

@@ -18,7 +18,7 @@ pub struct Row {
     pub setting: Vec<Write>,
     pub writes: Vec<Write>,
     /// Turns in one pass over the writes; a turn is one write, the two of a copy, or one stipple of a text with the register writes
-    /// before it.
+    /// around it.
     pub turns: usize,
     /// The writes of a turn that count in a rate: all of them, but of a text the stipple alone.
     pub writes_a_turn: usize,

@@ -1,6 +1,6 @@
 //! A text as a host draws it on a terminal that fills the VRAM, in opaque stipples: the colours are set at the start of each word.
 //! Before stipples of fewer than 32 pixels the lasting pixel mask is set, and put back after them, as in the recorded traces of
-//! Linux's driver.
+//! Linux's driver. The text is made up for this: no patient is meant.
 
 use super::font::FONT;
 use super::rows::{empty_row, frame_write, register_write, Row, VRAM};

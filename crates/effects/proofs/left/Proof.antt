@@ -1,5 +1,9 @@
 -- `effects::left` meets its contract: each arm is the definition at that effect. Assumes nothing.
+use mathlib.Core.Path.{ap, ap₂}
+use mathlib.Core.List.{List}
+use Prim.Native.Nat.{ℕ}
 use denote.Ref.{now}
+use Rattle.card.specs.declared.Card.{Card}
 use Rattle.plan.specs.Plan.{reads, loads, left}
 use Rattle.rules.specs.Writes.{sourced}
 use borrow.Author.Needs.{needs}
@@ -18,14 +22,14 @@ enum-told-2 c = search needs
 source-requires : tie.Need-source-requires
 source-requires c κs = search needs
 
-used-up-requires : tie.Need-used-up-requires
-used-up-requires c κs = search needs
+mask-used-requires-2 : tie.Need-mask-used-requires-2
+mask-used-requires-2 c κs = search needs
 
 enum-told-3 : tie.Need-enum-told-3
 enum-told-3 c = search needs
 
-used-up-requires-2 : tie.Need-used-up-requires-2
-used-up-requires-2 c κs = search needs
+mask-used-requires-3 : tie.Need-mask-used-requires-3
+mask-used-requires-3 c κs = search needs
 
 enum-known-effect : tie.Need-enum-known-effect
 enum-known-effect c = search needs
@@ -48,11 +52,19 @@ returns c = rw (c .before .enum-told .given .1) (c .mask-used .ensures (c .befor
 
 returns-2 : tie.Need-returns-2
 unfolding left reads sourced
-returns-2 c = rw (c .before .before .before .before .before .enum-told2 .given .1, c .before .before .used-up .ensures, c .before .before .before .source .ensures)
+returns-2 c =
+    let a = c .before .before .before .before .before .before .args in
+    rw (c .before .before .before .enum-told2 .given .1)
+    (ap₂ (λ (d : Card) (b : List ℕ). record { registers = d .registers; mask = d .mask; copier = record { buffer = b; loaded = 0; writing = 1 }; held = d .held })
+    (c .mask-used2 .ensures (a .w) (now (a .vram))) (c .before .source .ensures))
 
 returns-3 : tie.Need-returns-3
 unfolding left
-returns-3 c = rw (c .before .before .before .before .enum-told3 .given .1, c .before .before .before .used-up2 .ensures)
+returns-3 c =
+    let a = c .before .before .before .before .before .args in
+    rw (c .before .before .enum-told3 .given .1)
+    (ap (λ (d : Card). record { registers = d .registers; mask = d .mask; copier = record { buffer = d .copier .buffer; loaded = d .copier .loaded; writing = 0 }; held = d .held })
+    (c .before .mask-used3 .ensures (a .w) (now (a .vram))))
 
 returns-4 : tie.Need-returns-4
 unfolding left
@@ -74,9 +86,9 @@ left-spec =
     mask-used-requires
     enum-told-2
     source-requires
-    used-up-requires
+    mask-used-requires-2
     enum-told-3
-    used-up-requires-2
+    mask-used-requires-3
     enum-known-effect
     store-requires
     enum-told-4

@@ -16,8 +16,12 @@ use borrow.Author.Needs.{needs}
 use Rattle.engine.proofs.tell.Statement.{statement}
 use Rattle.engine.proofs.tell.Tie as tie
 
+-- the number that was found is that of the write
+numbered : (c : Card) (w : Write) (n : ℕ) {p : Plan} {k : ℕ} → p ≡ planOf c w → k ≡ judged p w n → k ≡ refusal c w n
+numbered c w n of e = e ∙ (ap (λ (p : Plan). judged p w n) of ∙ planned-number c w n)
+
 accepted : (c : Card) (w : Write) (n : ℕ) {p : Plan} {k : ℕ} → p ≡ planOf c w → k ≡ judged p w n → k ≡ 0 → refusal c w n ≡ 0
-accepted c w n of e z = sym (e ∙ (ap (λ (p : Plan). judged p w n) of ∙ planned-number c w n)) ∙ z
+accepted c w n of e z = sym (numbered c w n of e) ∙ z
 
 plan-of-requires : tie.Need-plan-of-requires
 plan-of-requires c κs = search needs
@@ -29,7 +33,7 @@ returns : tie.Need-returns
 returns c =
     let a = c .before .before .before .before .args in
     let v = now (a .vram) in
-    let n = c .before .refuse .ensures ∙ (ap (λ (p : Plan). judged p (a .w) (length v)) (c .before .before .plan-of .ensures) ∙ planned-number (a .card) (a .w) (length v)) in
+    let n = numbered (a .card) (a .w) (length v) (c .before .before .plan-of .ensures) (c .before .refuse .ensures) in
     let no : refusal (a .card) (a .w) (length v) ≡ 0 → ⊥ = λ e. c .if1 .taken (n ∙ e) in (
       record {
         number = n;
