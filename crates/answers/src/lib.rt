@@ -24,7 +24,7 @@ pub struct Ran {
     pub rest: u32,
 }
 
-// The next card, what a write answers, and whether no more of the card than its pixel mask has changed.
+// The next card, what a write answers, and whether it was refused or is text, so that no more of the card than its pixel mask has changed.
 pub struct Written {
     pub card: Card,
     pub answer: Answer,

@@ -26,7 +26,7 @@ fn used_up(mask: Mask) -> u32
     ONES
 }
 
-// The card that a frame write in any mode but copy leaves, whatever the write and the picture.
+// The card that an accepted frame write in any mode but copy leaves, whatever the write and the picture.
 pub fn mask_used(card: Card) -> Card
     ensures { λ r. ⌜ ((w : Write) (v : List ℕ) → r ≡ leftBy UsesMask card w v) ⌝ }
 {

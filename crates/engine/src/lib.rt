@@ -14,15 +14,13 @@ use card::Card;
 use card::ONES;
 use card::REGISTERS;
 use card::Write;
+use plan::COPY;
 use plan::Plan;
 use span::Strokes;
 use span::Tally;
 
 // The mode register in opaque stipple mode.
 const OPAQUE_STIPPLE: u32 = 0x01;
-
-// The operation that takes the source.
-const COPY: u8 = 3;
 
 // What a write answers: its number, what was drawn, and the next card.
 pub struct Answer {
@@ -31,7 +29,7 @@ pub struct Answer {
     pub card: Card,
 }
 
-// The same, and whether no more of the card than its pixel mask has changed: whoever holds the card then stores that alone.
+// The same, and whether the write was refused or is text: no more of the card than its pixel mask has changed then, and whoever holds the card stores that alone.
 pub struct Told {
     pub answer: Answer,
     pub kept: bool,

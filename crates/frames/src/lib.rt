@@ -8,15 +8,13 @@ use card::CLEAR;
 use card::Card;
 use card::ONES;
 use card::Write;
+use plan::COPY;
 use plan::Effect;
 use plan::Faults;
 use plan::LAST_OPERATION;
 use plan::Paint;
 use plan::Plan;
 use rules::Mode;
-
-// The operation that takes the source.
-const COPY: u8 = 3;
 
 // One more than the largest word.
 const WORD: u64 = 4294967296;

@@ -11,7 +11,7 @@ pub struct Reduced {
 }
 
 // All 64 bits.
-const ONES: u64 = 0xFFFF_FFFF_FFFF_FFFF;
+pub const ONES: u64 = 0xFFFF_FFFF_FFFF_FFFF;
 
 // All ones where n is odd, else 0.
 fn spread(n: u8) -> u64

@@ -4,6 +4,9 @@ use card::Register;
 // The last of the sixteen raster operations.
 pub const LAST_OPERATION: u32 = 15;
 
+// The operation that takes the source.
+pub const COPY: u8 = 3;
+
 // What the pixels of a span take. `at` is the address of the first, for the bytes that go by address.
 pub enum Paint {
     // foreground where bit j mod 32 is set, else background: of each the byte of the address mod 4

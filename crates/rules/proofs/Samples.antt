@@ -1,4 +1,4 @@
--- Samples S1 to S11 of the scope paper, each as it stands there, S6 as Ask 1 reads it, and three more for slips, computed from the definitions.
+-- Samples S1 to S11 of the scope paper, each as it stands there, S6 as Ask 1 reads it, and four more for slips, computed from the definitions.
 -- Assumes nothing.
 use mathlib.Core.Path.{_≡_, refl}
 use mathlib.Core.List.{List, [], _∷_, _++_}
@@ -121,9 +121,16 @@ SlidFills =
     × (shows (blocks 0xF) (frame 0 0x00020005) ≡ zeros 2 ++ (2 ∷ 3 ∷ zeros 60))
     × (counts (blocks 0xF) (frame 0 0x00020005) ≡ 2)
 
-computed : (S1 × S2 × S3 × S4 × S5 × S6 × S7 × S8 × S9 × S10 × S11) × Overlap × HeldCopy × SlidFills
+-- an opaque stipple, its lowest bit first, under a pixel mask: S4 reads the same from either end
+abbrev masked : List Write
+masked = reg 0x0030 0x01 ∷ reg 0x0020 0x01010101 ∷ reg 0x0024 0x02020202 ∷ reg 0x005C 0xFF ∷ []
+
+abbrev pub LowestFirst : Type 0
+LowestFirst = (shows masked (frame 0 0xF) ≡ replicate 4 1 ++ (replicate 4 2 ++ zeros 56)) × (counts masked (frame 0 0xF) ≡ 8)
+
+computed : (S1 × S2 × S3 × S4 × S5 × S6 × S7 × S8 × S9 × S10 × S11) × Overlap × HeldCopy × SlidFills × LowestFirst
 unfolding cardAfter pictureAfter refusal badLength badSpace badLanes noRegister badMode badRaster offBoundary outside unloaded modeOf frameSpan spansOf spanned effectiveBy count operation layers picture sourced afterFrame afterRegister next resetCard rowAt rowIn table stores byte from before drawn drawnAll counted listed made number result bit
-computed = (((refl, refl), (refl, refl), refl, (refl, refl), refl, (refl, refl), refl, (refl, refl), s9, (refl, refl, refl), refl), refl, refl, (refl, refl, refl, refl))
+computed = (((refl, refl), (refl, refl), refl, (refl, refl), refl, (refl, refl), refl, (refl, refl), s9, (refl, refl, refl), refl), refl, refl, (refl, refl, refl, refl), (refl, refl))
 
 pub samples : S1 × S2 × S3 × S4 × S5 × S6 × S7 × S8 × S9 × S10 × S11
 samples = computed .0
@@ -136,3 +143,6 @@ held-copy = computed .2
 
 pub slid-fills : SlidFills
 slid-fills = computed .3
+
+pub lowest-first : LowestFirst
+lowest-first = computed .4

@@ -149,7 +149,7 @@ pub fn draw_at(vram: &mut [u8], first: usize, s: Strokes) -> Tally
 
 // ---- Text.
 
-// The shorter way of 32 pixels under operation 3, whatever that of the strokes is: a table with nothing to choose, the pattern once, no loop.
+// The shorter way of 32 pixels under operation 3, whatever operation and width the strokes have: a table with nothing to choose, the pattern once, no loop.
 // Nothing where they do not all lie inside.
 pub fn text_at(vram: &mut [u8], address: u32, s: Strokes)
     ensures { λ _. ⌜ now (vram .exit) ≡ cond (leb (address + 32) (length (now (vram .entry))))

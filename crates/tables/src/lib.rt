@@ -7,11 +7,9 @@ ghost use Rattle.raster.specs.Pixel.{bit};
 ghost use Rattle.span.specs.Fragments.{stays, paint, byte};
 ghost use Rattle.span.specs.Strokes.{stroke};
 ghost use Rattle.tables.specs.Reduced.{keeps, flips, Makes};
+use pixels::ONES;
 use pixels::Reduced;
 use span::Strokes;
-
-// All 64 bits.
-const ONES: u64 = 0xFFFF_FFFF_FFFF_FFFF;
 
 // The pattern digested, eight pixels a word: an old word becomes (old & and) ^ xor.
 pub struct Table {

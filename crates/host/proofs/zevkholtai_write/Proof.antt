@@ -221,12 +221,12 @@ module _ {M : Type 1} (𝓤 : URA M) (H : Heap 𝓤) (A : Atoms 𝓤) (W : Given
         assigns ! (of-opd ! (load ! (from ! (fld ! refl (stop !))) (look-in ! 16 (sub ! 2 refl (whole !))))) (from ! (stop !)) (init ! 8 refl (tt, tt)) $
         first ! $ joins ! (load ! (from ! (stop !)) (look ! 8 refl))
         -- the mask is stored, and with it the card that was returned lies there
-        (λ held. step (λ k.
+        (λ is-kept. step (λ k.
         assigns ! (of-opd ! (load ! (from ! (fld ! refl (fld ! refl (fld ! refl (stop !))))) (look-in ! 16 (sub ! 0 refl (sub ! 1 refl (sub ! 0 refl (whole !)))))))
         (from ! (hop ! (look ! 28 refl) (fld ! refl (fld ! refl (stop !))))) (store-in ! 4 (sub ! 0 refl (sub ! 1 refl (whole !))) (tt, typed 𝓤 H A W (r .card) _ (card-is r u is′) .1 .1 .0 .0)) $
         assigns-last ! (of-opd ! (load ! (from ! (fld ! refl (fld ! refl (fld ! refl (stop !))))) (look-in ! 16 (sub ! 1 refl (sub ! 1 refl (sub ! 0 refl (whole !)))))))
         (from ! (hop ! (look ! 28 refl) (fld ! refl (fld ! refl (stop !))))) (store-in ! 4 (sub ! 1 refl (sub ! 1 refl (whole !))) (tt, typed 𝓤 H A W (r .card) _ (card-is r u is′) .1 .1 .0 .1 .0)) $
-        rewrite ! 4 (λ (d : Card). ‵ (cellAt fullShare (T.the-row .mir) (spell d ∷ []) b o)) (stored r (at-last zs) e held) refl $ k))
+        rewrite ! 4 (λ (d : Card). ‵ (cellAt fullShare (T.the-row .mir) (spell d ∷ []) b o)) (stored r (at-last zs) e is-kept) refl $ k))
         -- the whole card is stored
         (λ failed. step (λ k.
         assigns-last ! (of-opd ! (load ! (from ! (fld ! refl (stop !))) (look-in ! 16 (sub ! 0 refl (whole !))))) (from ! (hop ! (look ! 28 refl) (stop !)))
