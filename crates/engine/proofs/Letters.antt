@@ -34,31 +34,27 @@ use Rattle.engine.specs.Text.{isText, keeps}
 
 module _ (c : Card) (w : Write) (t : isText c w ≡ true) where
   -- what the test says
-  a-frame-write : eqb (w .space) 1 ≡ false
+  fits : (c .registers .mode ≡ 1) × (c .registers .raster ≡ 3) × (c .registers .plane ≡ 2 ^ 32 - 1) × (eqb (w .space) 1 ≡ false)
   unfolding isText
-  a-frame-write = let (f, r) = both (not (eqb (w .space) 1)) _ t in sym (not-not (eqb (w .space) 1)) ∙ ap not f
-
-  registers-fit : (c .registers .mode ≡ 1) × (c .registers .raster ≡ 3) × (c .registers .plane ≡ 2 ^ 32 - 1)
-  unfolding isText
-  registers-fit =
-      let (f, r) = both (not (eqb (w .space) 1)) _ t in
-      let (m, q) = both (eqb (c .registers .mode) 1) _ r in
-      let (o, p) = both (eqb (c .registers .raster) 3) _ q in
-      (eqb-true _ _ m, eqb-true _ _ o, eqb-true _ _ p)
+  fits =
+      let (o, r) = both (eqb (c .registers .raster) 3) _ t in
+      let (p, q) = both (eqb (c .registers .plane) (2 ^ 32 - 1)) _ r in
+      let (m, f) = both (eqb (c .registers .mode) 1) _ q in
+      (eqb-true _ _ m, eqb-true _ _ o, eqb-true _ _ p, sym (not-not (eqb (w .space) 1)) ∙ ap not f)
 
   in-mode : modeOf (c .registers .mode) ≡ OpaqueStipple
   unfolding modeOf
-  in-mode = rw (registers-fit .0)
+  in-mode = rw (fits .0)
 
   text-plan : planOf c w ≡ framePlan OpaqueStipple c w
   unfolding planOf
-  text-plan = rw (a-frame-write, in-mode)
+  text-plan = rw (fits .3, in-mode)
 
   module _ (v : List ℕ) (ok : refusal c w (length v) ≡ 0) where
     aligned : w .address % 4 ≡ 0
     unfolding offBoundary
     aligned =
-        let e : not (eqb (w .address % 4) 0) ≡ false = rw (a-frame-write, in-mode) at (accepted-passed c w (length v) ok 6) in
+        let e : not (eqb (w .address % 4) 0) ≡ false = rw (fits .3, in-mode) at (accepted-passed c w (length v) ok 6) in
         eqb-true (w .address % 4) 0 (sym (not-not (eqb (w .address % 4) 0)) ∙ ap not e)
 
     -- strokes of the pixel mask, the data and the colours, under every plane but the held ones
@@ -69,10 +65,10 @@ module _ (c : Card) (w : Write) (t : isText c w ≡ true) where
       text-draws : Draws s (framePlan OpaqueStipple c w .op) (effective c) (planned (framePlan OpaqueStipple c w) c)
       unfolding frameSpan
       text-draws =
-          draws s _ (effective c) (planned (framePlan OpaqueStipple c w) c) (eo ∙ rw (registers-fit .1)) ew
+          draws s _ (effective c) (planned (framePlan OpaqueStipple c w) c) (eo ∙ rw (fits .1)) ew
           (λ j.
           let p : (0 + j) % 4 ≡ (w .address + j) % 4 = omega (arith, aligned) in
-          em j ∙ rw (registers-fit .2) (mask-again _ (c .held) (0 + j) (w .address + j) p))
+          em j ∙ rw (fits .2) (mask-again _ (c .held) (0 + j) (w .address + j) p))
           (λ j h. ap (λ (x : ℕ). bit x (j % 32)) ee)
           (λ j h.
           let p : (0 + j) % 4 ≡ (w .address + j) % 4 = omega (arith, aligned) in

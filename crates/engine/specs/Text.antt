@@ -6,11 +6,11 @@ use Rattle.card.specs.declared.Card.{Card}
 use Rattle.card.specs.declared.Write.{Write}
 use Rattle.rules.specs.Refusal.{refusal}
 
--- text: a frame write in opaque stipple mode, with operation 3 and every plane in the plane mask
+-- text: with operation 3 and every plane in the plane mask, in opaque stipple mode, a frame write
 unfoldable pub isText : Card → Write → Bool
 isText c w =
-    not (eqb (w .space) 1)
-    && (eqb (c .registers .mode) 0x01 && (eqb (c .registers .raster) 3 && eqb (c .registers .plane) (2 ^ 32 - 1)))
+    eqb (c .registers .raster) 3
+    && (eqb (c .registers .plane) (2 ^ 32 - 1) && (eqb (c .registers .mode) 0x01 && not (eqb (w .space) 1)))
 
 -- a refused write and text leave all of the card but its pixel mask
 unfoldable pub keeps : Card → Write → ℕ → Bool

@@ -102,16 +102,16 @@ fn text(card: Card, w: Write, vram: &mut [u8]) -> Answer
 fn is_text(card: Card, w: Write) -> bool
     ensures { λ r. ⌜ r ≡ isText card w ⌝ }
 {
-    if w.space == REGISTERS {
+    if card.registers.raster != COPY as u32 {
+        return false;
+    }
+    if card.registers.plane != ONES {
         return false;
     }
     if card.registers.mode != OPAQUE_STIPPLE {
         return false;
     }
-    if card.registers.raster != COPY as u32 {
-        return false;
-    }
-    card.registers.plane == ONES
+    w.space != REGISTERS
 }
 
 // ---- One write.
