@@ -56,7 +56,7 @@ pub fn measure(row: &Row, way: Way) -> Result<Times, String> {
         Way::Run => run(THIS, vram),
         Way::Chunks(size) => read(&bytes, size, vram),
     };
-    // A library that was made before the reader has none.
+    // A reader and its card go by value, and another commit may lay them out otherwise, so its reader is not called.
     let other = OTHER.filter(|_| matches!(way, Way::Run));
     let wanted = written(&row.writes, &mut vrams[2]);
     if wanted.0 != 0 {
