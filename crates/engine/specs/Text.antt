@@ -6,7 +6,7 @@ use Rattle.card.specs.declared.Card.{Card}
 use Rattle.card.specs.declared.Write.{Write}
 use Rattle.rules.specs.Refusal.{refusal}
 
--- text: with operation 3 and every plane in the plane mask, in opaque stipple mode, a frame write
+-- text: a frame write in opaque stipple mode, with operation 3 and every plane in the plane mask
 unfoldable pub isText : Card → Write → Bool
 isText c w =
     eqb (c .registers .raster) 3

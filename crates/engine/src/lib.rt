@@ -29,7 +29,7 @@ pub struct Answer {
     pub card: Card,
 }
 
-// The same, and whether the write was refused or is text: no more of the card than its pixel mask has changed then, and whoever holds the card stores that alone.
+// The same, and whether the write was refused or is text: no more of the card than its pixel mask has changed then, and whoever holds the card may store that alone.
 pub struct Told {
     pub answer: Answer,
     pub kept: bool,
@@ -98,7 +98,7 @@ fn text(card: Card, w: Write, vram: &mut [u8]) -> Answer
     }
 }
 
-// Whether a write is text: an opaque stipple with operation 3 and a full plane mask.
+// Whether a write is text: an opaque stipple with operation 3 and a full plane mask. What seldom changes is asked first.
 fn is_text(card: Card, w: Write) -> bool
     ensures { λ r. ⌜ r ≡ isText card w ⌝ }
 {

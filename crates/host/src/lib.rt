@@ -29,7 +29,7 @@ pub extern "C" fn zevkholtai_reset(card: &mut Card, held: u8)
 }
 
 // One write. A refused one answers its number with count 0, and leaves the card and every byte of VRAM.
-// Of a refused write and of text the pixel mask alone is stored: no more of the card has changed (measured: docs/changes/ask-03.md).
+// Of a refused write and of text the pixel mask alone is stored, since no more of the card has changed (what that saves: docs/changes/ask-03.md).
 #[no_mangle]
 pub extern "C" fn zevkholtai_write(
     card: &mut Card,

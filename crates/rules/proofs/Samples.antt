@@ -121,7 +121,7 @@ SlidFills =
     × (shows (blocks 0xF) (frame 0 0x00020005) ≡ zeros 2 ++ (2 ∷ 3 ∷ zeros 60))
     × (counts (blocks 0xF) (frame 0 0x00020005) ≡ 2)
 
--- an opaque stipple, its lowest bit first, under a pixel mask: S4 reads the same from either end
+-- an opaque stipple, its lowest bit first, under a pixel mask: no sample of the paper is one
 abbrev masked : List Write
 masked = reg 0x0030 0x01 ∷ reg 0x0020 0x01010101 ∷ reg 0x0024 0x02020202 ∷ reg 0x005C 0xFF ∷ []
 
