@@ -2,7 +2,7 @@
 
 use crate::listed::mode::{self, MODES};
 use crate::listed::OFFSETS;
-use crate::model::{Card, Write, FRAME, REGISTER};
+use crate::model::{self, Answer, Card, Write, FRAME, REGISTER};
 
 const OTHER_MODE: usize = MODES.len();
 const FIRST_REGISTER: usize = OTHER_MODE + 1;
@@ -14,7 +14,7 @@ const ROWS: usize = OTHER_SPACE + 1;
 const EACH_WAY: u64 = 100_000;
 
 /// Situations that the paper's easy slips and its change requests are about, with how often each must be met.
-const SITUATIONS: [(&str, u64); 20] = [
+const SITUATIONS: [(&str, u64); 24] = [
     ("one-shot mask, accepted frame write", 1),
     ("one-shot mask, refused frame write", 1),
     ("copy, source read", 1),
@@ -35,11 +35,21 @@ const SITUATIONS: [(&str, u64); 20] = [
     ("the short way, some pixels drawn and some masked", 1),
     ("the long way, operation 3 and one plane bit clear", 1),
     ("the long way, full plane mask, another operation", 1),
+    ("pixels enabled, none changed", 1),
+    ("pixels enabled, some changed and some not", 1),
+    ("pixels enabled, all changed", 1),
+    ("the short way, some enabled pixels changed and some not", 1),
 ];
+
+/// Ask 4: "a pixel changed twice in a run counts twice".
+const CHANGED_TWICE: &str = "run of writes, more pixels changed than differ at its end";
 
 pub struct Coverage {
     writes: [[u64; 10]; ROWS],
     situations: [u64; SITUATIONS.len()],
+    /// Pixels changed so far in a run of writes.
+    changed: u64,
+    changed_twice: u64,
 }
 
 fn row(card: &Card, write: Write) -> usize {
@@ -67,12 +77,18 @@ impl Coverage {
         Coverage {
             writes: [[0; 10]; ROWS],
             situations: [0; SITUATIONS.len()],
+            changed: 0,
+            changed_twice: 0,
         }
     }
 
     /// Counts one write, made on the card as it stood before.
-    pub fn write(&mut self, card: &Card, write: Write, answer: (u32, u32)) {
-        let (number, count) = answer;
+    pub fn write(&mut self, card: &Card, write: Write, answer: Answer) {
+        let Answer {
+            number,
+            pixels,
+            changed,
+        } = answer;
         self.writes[row(card, write)][number as usize] += 1;
         let frame = write.space == FRAME;
         let copy = frame && card.mode == mode::COPY && number == 0;
@@ -83,14 +99,15 @@ impl Coverage {
         let short = stippled && copies && card.plane == u32::MAX;
         let long = stippled && !short;
         let destination = write.space == REGISTER && write.address == 0x0164 && number == 0;
+        let some_changed = (1..pixels).contains(&changed);
         let met = [
             frame && card.marked != 0 && number == 0,
             frame && card.marked != 0 && number != 0,
             copy && card.writing == 0,
             copy && card.writing != 0,
             destination && mode::is_block(card.mode),
-            count > 0 && card.held & 0xFF != 0,
-            count > 0 && card.held > 0xFF,
+            pixels > 0 && card.held & 0xFF != 0,
+            pixels > 0 && card.held > 0xFF,
             frame && card.marked > 1 && number == 0,
             copy && card.writing > 1,
             destination && card.loaded > 1,
@@ -100,14 +117,34 @@ impl Coverage {
             filled(mode::BLOCK_FILL),
             short,
             long,
-            short && count > 0 && card.held & 0xFF != 0,
-            short && (1..32).contains(&count),
+            short && pixels > 0 && card.held & 0xFF != 0,
+            short && (1..32).contains(&pixels),
             long && copies && card.plane.count_zeros() == 1,
             long && card.plane == u32::MAX,
+            pixels > 0 && changed == 0,
+            some_changed,
+            pixels > 0 && changed == pixels,
+            short && some_changed,
         ];
         for (counter, met) in self.situations.iter_mut().zip(met) {
             *counter += u64::from(met);
         }
+        self.changed += u64::from(changed);
+    }
+
+    /// Ends a run of writes, with the picture on which it began and the one that it left.
+    pub fn end_run(&mut self, first: &[u8], last: &[u8]) {
+        let differing = u64::from(model::differing(first, last));
+        self.changed_twice += u64::from(self.changed > differing);
+        self.changed = 0;
+    }
+
+    /// Each situation, with how often it must be met and was.
+    fn situations(&self) -> impl Iterator<Item = (&str, u64, u64)> {
+        let of_writes = SITUATIONS.iter().zip(self.situations);
+        of_writes
+            .map(|(&(name, least), count)| (name, least, count))
+            .chain([(CHANGED_TWICE, 1, self.changed_twice)])
     }
 
     pub fn all_writes(&self) -> u64 {
@@ -123,7 +160,7 @@ impl Coverage {
             println!("{:<26}{cells}", row_name(row));
         }
         println!("{:<26}{:>8}", "all writes", self.all_writes());
-        for ((name, _), count) in SITUATIONS.iter().zip(&self.situations) {
+        for (name, _, count) in self.situations() {
             println!("{name}: {count}");
         }
     }
@@ -145,7 +182,7 @@ impl Coverage {
                 missing.push(format!("{}, refused", row_name(row)));
             }
         }
-        for ((name, least), count) in SITUATIONS.iter().zip(&self.situations) {
+        for (name, least, count) in self.situations() {
             if count < least {
                 missing.push(format!("{name}, {count} of {least}"));
             }

@@ -53,7 +53,7 @@ fn list(maker: &mut Maker, next: Next, length: usize, entries: usize, rare: u64)
     let mut list = Vec::new();
     while list.len() < entries {
         let write = next(maker, &card, length);
-        let refused = model::write(&mut card, &mut vram, write).0 != 0;
+        let refused = model::write(&mut card, &mut vram, write).number != 0;
         let wanted = !refused || refusal::bad_length(length as u64) || maker.random.one_in(rare);
         if wanted {
             list.push(write);

@@ -1,9 +1,12 @@
-//! "Samples": S1 to S12 and the two sizes to be run as tests, with the values that the scope paper gives, and Ask 1 for S6.
+//! "Samples": S1 to S12 and the two sizes to be run as tests, with the values that the scope paper gives, and Ask 1 for S6. What
+//! Ask 4 makes of them is counted by hand, in the bytes that the paper gives before and after.
 
-use crate::model::{self, pixel, trace, Card, Write};
+use crate::model::serial::Reader;
+use crate::model::trace::{self, ENTRY, HEADER};
+use crate::model::{self, pixel, Answer, Card, Write};
 
-/// A write with the number it must answer and, where the paper says it, its count.
-struct Step(u8, u8, u32, u32, u32, Option<u32>);
+/// A write with the number it must answer; its count, where the paper says it; and the pixels it changes.
+struct Step(u8, u8, u32, u32, u32, Option<u32>, u32);
 
 struct Sample {
     name: &'static str,
@@ -45,13 +48,13 @@ const PLAIN: Sample = Sample {
 const SAMPLES: &[Sample] = &[
     Sample {
         name: "S1",
-        steps: &[Step(0, 15, 0, 0x44332211, 0, Some(4))],
+        steps: &[Step(0, 15, 0, 0x44332211, 0, Some(4), 4)],
         after: &[(0, &[0x11, 0x22, 0x33, 0x44])],
         ..PLAIN
     },
     Sample {
         name: "S2",
-        steps: &[Step(0, 5, 0, 0x44332211, 0, Some(2))],
+        steps: &[Step(0, 5, 0, 0x44332211, 0, Some(2), 2)],
         after: &[(0, &[0x11, 0x00, 0x33, 0x00])],
         ..PLAIN
     },
@@ -59,16 +62,16 @@ const SAMPLES: &[Sample] = &[
         name: "S3",
         held: 0x80,
         before: ones,
-        steps: &[Step(0, 15, 0, 0, 0, None)],
+        steps: &[Step(0, 15, 0, 0, 0, None, 4)],
         after: &[(0, &[0x80, 0x80, 0x80, 0x80])],
         ..PLAIN
     },
     Sample {
         name: "S4",
         steps: &[
-            Step(1, 15, 0x0030, 0x05, 0, Some(0)),
-            Step(1, 15, 0x0020, 0xAAAAAAAA, 0, Some(0)),
-            Step(0, 15, 32, 0x80000001, 0, Some(2)),
+            Step(1, 15, 0x0030, 0x05, 0, Some(0), 0),
+            Step(1, 15, 0x0020, 0xAAAAAAAA, 0, Some(0), 0),
+            Step(0, 15, 32, 0x80000001, 0, Some(2), 2),
         ],
         after: &[(32, &[0xAA]), (63, &[0xAA])],
         ..PLAIN
@@ -76,20 +79,20 @@ const SAMPLES: &[Sample] = &[
     Sample {
         name: "S5",
         steps: &[
-            Step(1, 15, 0x0030, 0x05, 0, Some(0)),
-            Step(1, 15, 0x0020, 0xAAAAAAAA, 0, Some(0)),
-            Step(0, 15, 36, 0x80000001, 8, Some(0)),
+            Step(1, 15, 0x0030, 0x05, 0, Some(0), 0),
+            Step(1, 15, 0x0020, 0xAAAAAAAA, 0, Some(0), 0),
+            Step(0, 15, 36, 0x80000001, 8, Some(0), 0),
         ],
         ..PLAIN
     },
     Sample {
         name: "S6",
         steps: &[
-            Step(1, 15, 0x0030, 0x21, 0, Some(0)),
-            Step(1, 15, 0x0020, 0x01010101, 0, Some(0)),
-            Step(1, 15, 0x0024, 0x02020202, 0, Some(0)),
-            Step(1, 15, 0x0080, 0xF, 0, Some(0)),
-            Step(0, 15, 0, 0x00020005, 0, Some(6)),
+            Step(1, 15, 0x0030, 0x21, 0, Some(0), 0),
+            Step(1, 15, 0x0020, 0x01010101, 0, Some(0), 0),
+            Step(1, 15, 0x0024, 0x02020202, 0, Some(0), 0),
+            Step(1, 15, 0x0080, 0xF, 0, Some(0), 0),
+            Step(0, 15, 0, 0x00020005, 0, Some(6), 6),
         ],
         // The reading that Ask 1 gives it.
         after: &[(2, &[1, 1]), (4, &[2, 2, 2, 2])],
@@ -98,11 +101,11 @@ const SAMPLES: &[Sample] = &[
     Sample {
         name: "S7",
         steps: &[
-            Step(1, 15, 0x0030, 0x2D, 0, Some(0)),
-            Step(1, 15, 0x0140, 0x03020100, 0, Some(0)),
-            Step(1, 15, 0x0144, 0x07060504, 0, Some(0)),
-            Step(1, 15, 0x0080, 0xFFFFFFFF, 0, Some(0)),
-            Step(0, 15, 4, 3, 0, None),
+            Step(1, 15, 0x0030, 0x2D, 0, Some(0), 0),
+            Step(1, 15, 0x0140, 0x03020100, 0, Some(0), 0),
+            Step(1, 15, 0x0144, 0x07060504, 0, Some(0), 0),
+            Step(1, 15, 0x0080, 0xFFFFFFFF, 0, Some(0), 0),
+            Step(0, 15, 4, 3, 0, None, 4),
         ],
         after: &[(4, &[4, 5, 6, 7])],
         ..PLAIN
@@ -110,8 +113,9 @@ const SAMPLES: &[Sample] = &[
     Sample {
         name: "S8",
         steps: &[
-            Step(1, 15, 0x0028, 0x0F, 0, Some(0)),
-            Step(0, 15, 0, 0xFFFFFFFF, 0, Some(4)),
+            Step(1, 15, 0x0028, 0x0F, 0, Some(0), 0),
+            // Pixels 1 to 3 stay 0.
+            Step(0, 15, 0, 0xFFFFFFFF, 0, Some(4), 1),
         ],
         after: &[(0, &[0x0F, 0, 0, 0])],
         ..PLAIN
@@ -120,38 +124,40 @@ const SAMPLES: &[Sample] = &[
         name: "S10",
         before: index_to_31,
         steps: &[
-            Step(1, 15, 0x0030, 0x07, 0, Some(0)),
-            Step(0, 15, 0, 0xFFFFFFFF, 0, Some(0)),
-            Step(0, 15, 32, 0xFFFF, 0, Some(16)),
+            Step(1, 15, 0x0030, 0x07, 0, Some(0), 0),
+            Step(0, 15, 0, 0xFFFFFFFF, 0, Some(0), 0),
+            // Pixel 32 takes the 0 of pixel 0, and was 0.
+            Step(0, 15, 32, 0xFFFF, 0, Some(16), 15),
         ],
         after: &[(32, &[0, 1, 2, 3, 4, 5, 6, 7, 8, 9, 10, 11, 12, 13, 14, 15])],
         ..PLAIN
     },
     Sample {
         name: "S11",
-        steps: &[Step(1, 15, 0x0164, 0, 9, Some(0))],
+        steps: &[Step(1, 15, 0x0164, 0, 9, Some(0), 0)],
         ..PLAIN
     },
     Sample {
         name: "VRAM of 2,097,152",
         length: 2_097_152,
-        steps: &[Step(0, 15, 2_097_148, 0x44332211, 0, Some(4))],
+        steps: &[Step(0, 15, 2_097_148, 0x44332211, 0, Some(4), 4)],
         after: &[(2_097_148, &[0x11, 0x22, 0x33, 0x44])],
         ..PLAIN
     },
     Sample {
         name: "VRAM of 2,097,216",
         length: 2_097_216,
-        steps: &[Step(0, 15, 0, 0x44332211, 1, Some(0))],
+        steps: &[Step(0, 15, 0, 0x44332211, 1, Some(0), 0)],
         ..PLAIN
     },
     Sample {
         name: "a 2,048-pixel fill at 0 of VRAM 2,048, and at 4",
         length: 2048,
         steps: &[
-            Step(1, 15, 0x0030, 0x21, 0, Some(0)),
-            Step(0, 15, 0, 2047, 0, Some(2048)),
-            Step(0, 15, 4, 2047, 8, Some(0)),
+            Step(1, 15, 0x0030, 0x21, 0, Some(0), 0),
+            // Reset leaves 0 in the background, and the picture is 0.
+            Step(0, 15, 0, 2047, 0, Some(2048), 0),
+            Step(0, 15, 4, 2047, 8, Some(0), 0),
         ],
         ..PLAIN
     },
@@ -166,6 +172,24 @@ const TRACE: [u8; 28] = [
     0x00, 0x0F, 0x00, 0x00, 0x00, 0x00, 0x00, 0x00, 0x11, 0x22, 0x33, 0x44,
 ];
 
+/// Simple writes of all lanes, as address and data, and the totals of a run of them: number, entries, pixels enabled and pixels
+/// changed.
+struct Run(&'static [(u32, u32)], [u32; 4]);
+
+/// Ask 4 on traces, with S1's pixels; from reset, VRAM of 64 zeros.
+const RUNS: [Run; 5] = [
+    // S12's trace.
+    Run(&[(0, 0x44332211)], [0, 1, 4, 4]),
+    // What is drawn again doesn't change.
+    Run(&[(0, 0x44332211), (0, 0x44332211)], [0, 2, 8, 4]),
+    // "a pixel changed twice in a run counts twice": all four, though the last picture is the first.
+    Run(&[(0, 0x44332211), (0, 0)], [0, 2, 8, 8]),
+    // And pixel 1 alone.
+    Run(&[(0, 0x44332211), (0, 0x44330011)], [0, 2, 8, 5]),
+    // "Earlier entries stay drawn, and the total counts them."
+    Run(&[(0, 0x44332211), (64, 0x44332211)], [8, 1, 4, 4]),
+];
+
 /// Runs every sample on the model and counts them.
 pub fn check_all() -> Result<usize, String> {
     for sample in SAMPLES {
@@ -173,7 +197,10 @@ pub fn check_all() -> Result<usize, String> {
     }
     check_composites()?;
     check_trace()?;
-    Ok(SAMPLES.len() + 2)
+    for run in &RUNS {
+        check_run(run).map_err(|why| format!("run of {:X?}: {why}", run.0))?;
+    }
+    Ok(SAMPLES.len() + 2 + RUNS.len())
 }
 
 fn check_one(sample: &Sample) -> Result<(), String> {
@@ -196,7 +223,7 @@ fn check_one(sample: &Sample) -> Result<(), String> {
 }
 
 fn check_step(card: &mut Card, vram: &mut [u8], step: &Step) -> Result<(), String> {
-    let &Step(space, lanes, address, data, number, count) = step;
+    let &Step(space, lanes, address, data, number, count, changed) = step;
     let answer = model::write(
         card,
         vram,
@@ -207,7 +234,11 @@ fn check_step(card: &mut Card, vram: &mut [u8], step: &Step) -> Result<(), Strin
             data,
         },
     );
-    let expected = (number, count.unwrap_or(answer.1));
+    let expected = Answer {
+        number,
+        pixels: count.unwrap_or(answer.pixels),
+        changed,
+    };
     if answer == expected {
         Ok(())
     } else {
@@ -233,18 +264,50 @@ fn check_composites() -> Result<(), String> {
 fn check_trace() -> Result<(), String> {
     let mut buffer = [0xEE; 28];
     let started = trace::start(&mut buffer, 64);
-    let appended = trace::append(
-        &mut buffer,
-        16,
-        Write {
-            space: 0,
-            lanes: 15,
-            address: 0,
-            data: 0x44332211,
-        },
-    );
+    let appended = trace::append(&mut buffer, 16, simple(0, 0x44332211));
     if (started, appended) != ((0, 16), (0, 28)) || buffer != TRACE {
         return Err(format!("S12: {started:?}, {appended:?}, {buffer:02X?}"));
     }
     Ok(())
+}
+
+fn simple(address: u32, data: u32) -> Write {
+    Write {
+        space: 0,
+        lanes: 15,
+        address,
+        data,
+    }
+}
+
+/// A trace of the writes gives its totals when it is run whole, and when it arrives over a serial line.
+fn check_run(run: &Run) -> Result<(), String> {
+    let &Run(writes, totals) = run;
+    let mut bytes = vec![0; HEADER + ENTRY * writes.len()];
+    trace::start(&mut bytes, 64);
+    for (i, &(address, data)) in writes.iter().enumerate() {
+        trace::append(&mut bytes, HEADER + ENTRY * i, simple(address, data));
+    }
+    let ran = trace::run(
+        &bytes[HEADER..],
+        &mut model::reset(0),
+        &mut [0; 64],
+        u32::MAX,
+    );
+    let whole = [ran.number, ran.entries, ran.pixels, ran.changed];
+    let mut reader = Reader::new();
+    reader.chunk(&bytes, &mut model::reset(0), &mut [0; 64]);
+    let heard = [
+        reader.end(),
+        reader.entries(),
+        reader.pixels(),
+        reader.changed(),
+    ];
+    if (whole, heard) == (totals, totals) {
+        Ok(())
+    } else {
+        Err(format!(
+            "run whole {whole:?}, heard {heard:?}, expected {totals:?}"
+        ))
+    }
 }

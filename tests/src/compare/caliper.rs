@@ -5,13 +5,13 @@ use super::{picture, same};
 use crate::engine;
 use crate::generate::Maker;
 use crate::listed::mode;
-use crate::model::{self, Card, Write, FRAME, REGISTER};
+use crate::model::{self, Answer, Card, Write, FRAME, REGISTER};
 
 /// The operations that, made twice, change nothing.
 const OPERATIONS: [u32; 4] = [5, 6, 9, 10];
 const WRITES: usize = 60;
 
-type Entry = fn(&mut Card, &mut [u8], Write) -> (u32, u32);
+type Entry = fn(&mut Card, &mut [u8], Write) -> Answer;
 
 /// One list, on the model and on the engine; gives whether it showed.
 pub fn case(maker: &mut Maker) -> Result<bool, String> {
@@ -39,7 +39,7 @@ fn list(maker: &mut Maker, card: &Card, length: usize) -> Vec<Write> {
     while list.len() < WRITES {
         let write = maker.write(&card, length);
         let mut next = card.clone();
-        let refused = model::write(&mut next, &mut vram, write).0 != 0;
+        let refused = model::write(&mut next, &mut vram, write).number != 0;
         if refused || keeps(&card, write) {
             list.push(write);
             card = next;
@@ -73,7 +73,7 @@ fn made_twice(write: Entry, card: &Card, before: &[u8], writes: &[Write]) -> Res
     }
 }
 
-fn answers(write: Entry, card: &Card, vram: &mut [u8], writes: &[Write]) -> Vec<(u32, u32)> {
+fn answers(write: Entry, card: &Card, vram: &mut [u8], writes: &[Write]) -> Vec<Answer> {
     let mut card = card.clone();
     let answer = |&w| write(&mut card, vram, w);
     writes.iter().map(answer).collect()

@@ -14,7 +14,7 @@ mod traces;
 mod writes;
 
 use crate::generate::Maker;
-use crate::model::{self, Card, Write};
+use crate::model::{self, Answer, Card, Write};
 use std::fmt::Debug;
 
 /// Cases below this number are runs of writes.
@@ -25,7 +25,7 @@ type Outcome = Result<(), String>;
 /// What is compared with the model: a reset, given the card that stood there, and a write.
 struct Other {
     reset: fn(&Card, u8) -> Card,
-    write: fn(&mut Card, &mut [u8], Write) -> (u32, u32),
+    write: fn(&mut Card, &mut [u8], Write) -> Answer,
 }
 
 fn same<T: PartialEq + Debug>(what: &str, model: &T, other: &T) -> Outcome {

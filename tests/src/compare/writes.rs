@@ -1,9 +1,9 @@
-//! Runs of writes: number, count, whole card and whole VRAM are compared after every one.
+//! Runs of writes: number, pixels enabled and changed, whole card and whole VRAM are compared after every one.
 
 use super::{fresh_card, picture, same, Other, Outcome, Pair};
 use crate::coverage::Coverage;
 use crate::generate::Maker;
-use crate::model::{self, Card, Write};
+use crate::model::{self, Answer, Card, Write};
 
 /// Cases from this number on are opaque stipples.
 pub const FIRST_STIPPLES: u64 = 1_000;
@@ -23,7 +23,8 @@ pub fn case(other: &Other, maker: &mut Maker, coverage: &mut Coverage, case: u64
 /// Some hundred writes on a kept card and picture; now and then another card is handed in.
 fn any(other: &Other, maker: &mut Maker, coverage: &mut Coverage) -> Outcome {
     let (length, short) = maker.length();
-    let mut vram = Pair::new(picture(maker, length));
+    let first = picture(maker, length);
+    let mut vram = Pair::new(first.clone());
     let mut card = fresh_card(other, maker)?;
     let writes = if short {
         WRITES_A_SHORT_CASE
@@ -45,13 +46,15 @@ fn any(other: &Other, maker: &mut Maker, coverage: &mut Coverage) -> Outcome {
         // A card that is bad would be refused for ever, so the good one goes on.
         card = if bad { card } else { after };
     }
+    coverage.end_run(&first, &vram.model);
     Ok(())
 }
 
 /// Opaque stipples on a kept picture, each on a card of its own.
 fn stipples(other: &Other, maker: &mut Maker, coverage: &mut Coverage) -> Outcome {
     let length = maker.short_length();
-    let mut vram = Pair::new(maker.random.bytes(length));
+    let first = maker.random.bytes(length);
+    let mut vram = Pair::new(first.clone());
     for _ in 0..STIPPLES_A_CASE {
         let mut card = maker.stipple_card();
         if maker.random.one_in(40) {
@@ -60,6 +63,7 @@ fn stipples(other: &Other, maker: &mut Maker, coverage: &mut Coverage) -> Outcom
         let write = maker.stipple(&card, length);
         one_write(other, coverage, &card, &mut vram, write)?;
     }
+    coverage.end_run(&first, &vram.model);
     Ok(())
 }
 
@@ -74,7 +78,8 @@ fn one_write(
     let mut theirs = card.clone();
     let answer = model::write(&mut ours, &mut vram.model, write);
     let given = (other.write)(&mut theirs, &mut vram.other, write);
-    same("number and count", &answer, &given)
+    same("answer", &answer, &given)
+        .and_then(|()| within_enabled(&answer))
         .and_then(|()| same("card", &ours, &theirs))
         .and_then(|()| vram.same("VRAM"))
         .map_err(|why| {
@@ -85,4 +90,13 @@ fn one_write(
         })?;
     coverage.write(card, write, answer);
     Ok(ours)
+}
+
+/// Ask 4: "never above the enabled count".
+fn within_enabled(answer: &Answer) -> Outcome {
+    if answer.changed <= answer.pixels {
+        Ok(())
+    } else {
+        Err(format!("more changed than enabled: {answer:?}"))
+    }
 }

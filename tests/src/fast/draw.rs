@@ -1,7 +1,7 @@
 //! Writes that draw, each mode on its own way: registers are digested into words before the first pixel.
 
-use super::words::{from_pixel, spread, twice, Change};
-use super::Answer;
+use super::words::{from_pixel, nonzero, spread, sum_of_bytes, twice, Change};
+use super::{Drawn, Outcome, NOTHING};
 use crate::model::{Card, Write};
 
 /// Raster operation 3 takes the source.
@@ -46,46 +46,58 @@ fn drawn_block(card: &Card, first: u32) -> Change {
     Change::new(TAKE_SOURCE, from_pixel(colours, first), planes(card, first))
 }
 
-pub fn simple(card: &Card, vram: &mut [u8], write: Write) -> Answer {
+pub fn simple(card: &Card, vram: &mut [u8], write: Write) -> Outcome {
     let pixels = pixels::<4>(vram, write.address, 4)?;
     let enabled = u32::from(write.lanes) & card.pixel;
     let change = drawn(card, u64::from(write.data), 0).only(spread(enabled, 0));
     let old = u32::from_le_bytes(*pixels);
-    *pixels = ((old & change.and as u32) ^ change.xor as u32).to_le_bytes();
-    Ok(enabled.count_ones())
+    let new = change.of(u64::from(old)) as u32;
+    *pixels = new.to_le_bytes();
+    Ok(Drawn {
+        enabled: enabled.count_ones(),
+        changed: sum_of_bytes(nonzero(u64::from(old ^ new))),
+    })
 }
 
-/// Thirty-two pixels, eight a turn.
-fn stipple(pixels: &mut [u8; 32], change: impl Fn(usize) -> Change) {
-    for (k, eight) in pixels.as_chunks_mut().0.iter_mut().enumerate() {
-        change(k).apply(eight);
-    }
+/// Thirty-two pixels, eight a turn; gives how many change.
+fn stipple(pixels: &mut [u8; 32], change: impl Fn(usize) -> Change) -> u32 {
+    let eights = pixels.as_chunks_mut().0.iter_mut().enumerate();
+    sum_of_bytes(eights.map(|(k, eight)| change(k).apply(eight)).sum())
 }
 
-pub fn opaque_stipple(card: &Card, vram: &mut [u8], write: Write) -> Answer {
+pub fn opaque_stipple(card: &Card, vram: &mut [u8], write: Write) -> Outcome {
     let pixels = pixels(vram, write.address, 4)?;
     let foreground = drawn(card, twice(card.foreground), 0);
     let background = drawn(card, twice(card.background), 0);
-    stipple(pixels, |k| {
+    let changed = stipple(pixels, |k| {
         foreground
             .or(background, spread(write.data, k))
             .only(spread(card.pixel, k))
     });
-    Ok(card.pixel.count_ones())
+    Ok(Drawn {
+        enabled: card.pixel.count_ones(),
+        changed,
+    })
 }
 
-pub fn transparent_stipple(card: &Card, vram: &mut [u8], write: Write) -> Answer {
+pub fn transparent_stipple(card: &Card, vram: &mut [u8], write: Write) -> Outcome {
     let pixels = pixels(vram, write.address, 4)?;
     let foreground = drawn(card, twice(card.foreground), 0);
-    stipple(pixels, |k| foreground.only(spread(write.data, k)));
-    Ok(write.data.count_ones())
+    let changed = stipple(pixels, |k| foreground.only(spread(write.data, k)));
+    Ok(Drawn {
+        enabled: write.data.count_ones(),
+        changed,
+    })
 }
 
-pub fn block_stipple(card: &Card, vram: &mut [u8], write: Write) -> Answer {
+pub fn block_stipple(card: &Card, vram: &mut [u8], write: Write) -> Outcome {
     let pixels = pixels(vram, write.address, 4)?;
     let colours = drawn_block(card, write.address);
-    stipple(pixels, |k| colours.only(spread(write.data, k)));
-    Ok(write.data.count_ones())
+    let changed = stipple(pixels, |k| colours.only(spread(write.data, k)));
+    Ok(Drawn {
+        enabled: write.data.count_ones(),
+        changed,
+    })
 }
 
 /// The span of a fill, its first pixel modulo 8, and the fill mask with that pixel's bit lowest.
@@ -100,24 +112,29 @@ fn fill_span<'a>(
     Ok((part, write.address % 8 + low, card.data.rotate_right(low)))
 }
 
-/// A span on which the changes of thirty-two pixels repeat.
-fn fill(pixels: &mut [u8], change: impl Fn(usize) -> Change) {
+/// A span on which the changes of thirty-two pixels repeat; gives how many pixels change. It goes byte by byte: in arrays of this size
+/// the compiler takes sixteen at once.
+fn fill(pixels: &mut [u8], change: impl Fn(usize) -> Change) -> u32 {
     let changes: [Change; 4] = std::array::from_fn(change);
-    let (turns, rest) = pixels.as_chunks_mut();
-    if changes.iter().all(|change| change.and == 0) {
-        // Nothing of the old pixels stays.
-        let mut turn = [0; 32];
-        stipple(&mut turn, |k| changes[k]);
-        turns.fill(turn);
-    } else {
-        for turn in turns {
-            stipple(turn, |k| changes[k]);
+    let and: [u8; 32] = std::array::from_fn(|i| changes[i / 8].and.to_le_bytes()[i % 8]);
+    let xor: [u8; 32] = std::array::from_fn(|i| changes[i / 8].xor.to_le_bytes()[i % 8]);
+    // A span of 2,048 has 64 turns, so no count overflows.
+    let mut changed = [0u8; 32];
+    let mut draw = |i: usize, pixel: &mut u8| {
+        let new = (*pixel & and[i]) ^ xor[i];
+        changed[i] += u8::from(*pixel != new);
+        *pixel = new;
+    };
+    let (turns, rest) = pixels.as_chunks_mut::<32>();
+    for turn in turns {
+        for (i, pixel) in turn.iter_mut().enumerate() {
+            draw(i, pixel);
         }
     }
-    let mut last = [0; 32];
-    last[..rest.len()].copy_from_slice(rest);
-    stipple(&mut last, |k| changes[k]);
-    rest.copy_from_slice(&last[..rest.len()]);
+    for (i, pixel) in rest.iter_mut().enumerate() {
+        draw(i, pixel);
+    }
+    changed.into_iter().map(u32::from).sum()
 }
 
 /// The set bits of a mask that repeats over so many pixels.
@@ -126,30 +143,33 @@ fn repeated_ones(mask: u32, pixels: usize) -> u32 {
     (pixels / 32) as u32 * mask.count_ones() + rest.count_ones()
 }
 
-pub fn opaque_fill(card: &Card, vram: &mut [u8], write: Write) -> Answer {
+pub fn opaque_fill(card: &Card, vram: &mut [u8], write: Write) -> Outcome {
     let (pixels, first, mask) = fill_span(card, vram, write)?;
     let foreground = drawn(card, twice(card.foreground), first);
     let background = drawn(card, twice(card.background), first);
-    fill(pixels, |k| foreground.or(background, spread(mask, k)));
-    Ok(pixels.len() as u32)
+    let enabled = pixels.len() as u32;
+    let changed = fill(pixels, |k| foreground.or(background, spread(mask, k)));
+    Ok(Drawn { enabled, changed })
 }
 
-pub fn transparent_fill(card: &Card, vram: &mut [u8], write: Write) -> Answer {
+pub fn transparent_fill(card: &Card, vram: &mut [u8], write: Write) -> Outcome {
     let (pixels, first, mask) = fill_span(card, vram, write)?;
     let foreground = drawn(card, twice(card.foreground), first);
-    fill(pixels, |k| foreground.only(spread(mask, k)));
-    Ok(repeated_ones(mask, pixels.len()))
+    let enabled = repeated_ones(mask, pixels.len());
+    let changed = fill(pixels, |k| foreground.only(spread(mask, k)));
+    Ok(Drawn { enabled, changed })
 }
 
-pub fn block_fill(card: &Card, vram: &mut [u8], write: Write) -> Answer {
+pub fn block_fill(card: &Card, vram: &mut [u8], write: Write) -> Outcome {
     let (pixels, first, mask) = fill_span(card, vram, write)?;
     let colours = drawn_block(card, first);
-    fill(pixels, |k| colours.only(spread(mask, k)));
-    Ok(repeated_ones(mask, pixels.len()))
+    let enabled = repeated_ones(mask, pixels.len());
+    let changed = fill(pixels, |k| colours.only(spread(mask, k)));
+    Ok(Drawn { enabled, changed })
 }
 
 /// The accepted writes of copy mode alternate.
-pub fn copy(card: &mut Card, vram: &mut [u8], write: Write) -> Answer {
+pub fn copy(card: &mut Card, vram: &mut [u8], write: Write) -> Outcome {
     let pixels = pixels::<32>(vram, write.address, 8)?;
     card.writing = u32::from(card.writing == 0);
     if card.writing == 1 {
@@ -158,25 +178,28 @@ pub fn copy(card: &mut Card, vram: &mut [u8], write: Write) -> Answer {
             *to = (u64::from_le_bytes(*from) & spread(write.data, k)).to_le_bytes();
         }
         card.loaded = 0;
-        return Ok(0);
+        return Ok(NOTHING);
     }
     let mask = planes(card, 0);
     let buffer = card.buffer.as_chunks().0;
-    stipple(pixels, |k| {
+    let changed = stipple(pixels, |k| {
         Change::new(card.raster, u64::from_le_bytes(buffer[k]), mask).only(spread(write.data, k))
     });
-    Ok(write.data.count_ones())
+    Ok(Drawn {
+        enabled: write.data.count_ones(),
+        changed,
+    })
 }
 
 /// The 64-byte copy's source.
-pub fn load64(card: &mut Card, vram: &mut [u8], address: u32) -> Answer {
+pub fn load64(card: &mut Card, vram: &mut [u8], address: u32) -> Outcome {
     card.buffer = *pixels(vram, address, 64)?;
     card.loaded = 1;
-    Ok(0)
+    Ok(NOTHING)
 }
 
 /// The 64-byte copy's destination.
-pub fn unload64(card: &mut Card, vram: &mut [u8], address: u32) -> Answer {
+pub fn unload64(card: &mut Card, vram: &mut [u8], address: u32) -> Outcome {
     let pixels = pixels::<64>(vram, address, 64)?;
     if card.loaded == 0 {
         return Err(9);
@@ -184,8 +207,12 @@ pub fn unload64(card: &mut Card, vram: &mut [u8], address: u32) -> Answer {
     card.loaded = 0;
     let mask = planes(card, 0);
     let sources = card.buffer.as_chunks().0;
-    for (eight, source) in pixels.as_chunks_mut().0.iter_mut().zip(sources) {
-        Change::new(card.raster, u64::from_le_bytes(*source), mask).apply(eight);
-    }
-    Ok(64)
+    let eights = pixels.as_chunks_mut().0.iter_mut().zip(sources);
+    let draw = |(eight, &source): (&mut [u8; 8], &[u8; 8])| {
+        Change::new(card.raster, u64::from_le_bytes(source), mask).apply(eight)
+    };
+    Ok(Drawn {
+        enabled: 64,
+        changed: sum_of_bytes(eights.map(draw).sum()),
+    })
 }

@@ -1,11 +1,11 @@
-//! A plain implementation of the scope paper and Ask 1, written for speed in safe Rust, as the measure beside the engine in `bench`.
-//! It uses the model's types of a card and a write, and shares none of its rules and tables; `model` checks that both give the
-//! same.
+//! A plain implementation of the scope paper and Asks 1 and 4, written for speed in safe Rust, as the measure beside the engine in
+//! `bench`. It uses the model's types of a card, a write and an answer, and shares none of its rules and tables; `model` checks that
+//! both give the same.
 
 mod draw;
 mod words;
 
-use crate::model::{Card, Write};
+use crate::model::{Answer, Card, Write};
 
 const SIMPLE: u32 = 0x00;
 const OPAQUE_STIPPLE: u32 = 0x01;
@@ -16,8 +16,19 @@ const OPAQUE_FILL: u32 = 0x21;
 const BLOCK_FILL: u32 = 0x2D;
 const TRANSPARENT_FILL: u32 = 0x45;
 
-/// The pixels enabled, or the number of the refusal.
-type Answer = Result<u32, u32>;
+/// The pixels of an accepted write.
+struct Drawn {
+    enabled: u32,
+    changed: u32,
+}
+
+const NOTHING: Drawn = Drawn {
+    enabled: 0,
+    changed: 0,
+};
+
+/// What a write draws, or the number of the refusal.
+type Outcome = Result<Drawn, u32>;
 
 /// Bit v is set where v is a mode's code.
 const LISTED: u128 = 1 << SIMPLE
@@ -51,11 +62,11 @@ pub fn reset(held: u8) -> Card {
     }
 }
 
-/// One write: its number and pixel count. It is not inlined, as the engine's can't be.
+/// One write and its answer. It is not inlined, as the engine's can't be.
 #[inline(never)]
-pub fn write(card: &mut Card, vram: &mut [u8], write: Write) -> (u32, u32) {
+pub fn write(card: &mut Card, vram: &mut [u8], write: Write) -> Answer {
     let length = vram.len();
-    let answer = if length == 0 || !length.is_multiple_of(64) || length > 1 << 21 {
+    let outcome = if length == 0 || !length.is_multiple_of(64) || length > 1 << 21 {
         Err(1)
     } else if write.space > 1 || write.lanes > 15 {
         Err(2)
@@ -64,20 +75,25 @@ pub fn write(card: &mut Card, vram: &mut [u8], write: Write) -> (u32, u32) {
     } else {
         register(card, vram, write)
     };
-    match answer {
-        Ok(count) => (0, count),
-        Err(number) => (number, 0),
+    let (number, drawn) = match outcome {
+        Ok(drawn) => (0, drawn),
+        Err(number) => (number, NOTHING),
+    };
+    Answer {
+        number,
+        pixels: drawn.enabled,
+        changed: drawn.changed,
     }
 }
 
-fn frame(card: &mut Card, vram: &mut [u8], write: Write) -> Answer {
+fn frame(card: &mut Card, vram: &mut [u8], write: Write) -> Outcome {
     if write.lanes != 15 && card.mode != SIMPLE {
         return Err(3);
     }
     if card.raster > 15 {
         return Err(if is_listed(card.mode) { 6 } else { 5 });
     }
-    let count = match card.mode {
+    let drawn = match card.mode {
         SIMPLE => draw::simple(card, vram, write)?,
         OPAQUE_STIPPLE => draw::opaque_stipple(card, vram, write)?,
         TRANSPARENT_STIPPLE => draw::transparent_stipple(card, vram, write)?,
@@ -92,10 +108,10 @@ fn frame(card: &mut Card, vram: &mut [u8], write: Write) -> Answer {
         card.pixel = 0xFFFF_FFFF;
         card.marked = 0;
     }
-    Ok(count)
+    Ok(drawn)
 }
 
-fn register(card: &mut Card, vram: &mut [u8], write: Write) -> Answer {
+fn register(card: &mut Card, vram: &mut [u8], write: Write) -> Outcome {
     let Write { address, data, .. } = write;
     if write.lanes != 15 {
         return Err(3);
@@ -125,5 +141,5 @@ fn register(card: &mut Card, vram: &mut [u8], write: Write) -> Answer {
         0x164 => return draw::unload64(card, vram, data),
         block => card.block[(block / 4 % 8) as usize] = data,
     }
-    Ok(0)
+    Ok(NOTHING)
 }

@@ -34,6 +34,20 @@ pub fn from_pixel(word: u64, first: u32) -> u64 {
     word.rotate_right(8 * (first % 8))
 }
 
+/// The word whose byte i is 1 where byte i of this one is not zero, and 0 elsewhere. Bits 6:0 of a byte with 7Fh added reach its bit 7
+/// unless all are zero, and no further.
+pub fn nonzero(word: u64) -> u64 {
+    const LOW: u64 = 0x7F7F_7F7F_7F7F_7F7F;
+    ((((word & LOW) + LOW) | word) & !LOW) >> 7
+}
+
+/// The sum of a word's bytes: first in pairs, then the four pairs by the multiplication, in its upper bits.
+pub fn sum_of_bytes(word: u64) -> u32 {
+    const EVEN: u64 = 0x00FF_00FF_00FF_00FF;
+    let pairs = (word & EVEN) + (word >> 8 & EVEN);
+    (pairs.wrapping_mul(0x0001_0001_0001_0001) >> 48) as u32
+}
+
 /// What becomes of eight old pixels: `(old & and) ^ xor`.
 #[derive(Clone, Copy)]
 pub struct Change {
@@ -69,8 +83,15 @@ impl Change {
         }
     }
 
-    pub fn apply(self, pixels: &mut [u8; 8]) {
+    pub fn of(self, old: u64) -> u64 {
+        (old & self.and) ^ self.xor
+    }
+
+    /// Makes this change; gives the word whose byte i is 1 where pixel i has another byte then, and 0 elsewhere.
+    pub fn apply(self, pixels: &mut [u8; 8]) -> u64 {
         let old = u64::from_le_bytes(*pixels);
-        *pixels = ((old & self.and) ^ self.xor).to_le_bytes();
+        let new = self.of(old);
+        *pixels = new.to_le_bytes();
+        nonzero(old ^ new)
     }
 }

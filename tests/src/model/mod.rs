@@ -1,5 +1,5 @@
-//! A reference model of the scope paper, as Asks 1 and 2 of the change requests amend it, written from the papers alone: slow,
-//! bit by bit, and sharing nothing with the engine.
+//! A reference model of the scope paper, as Asks 1, 2 and 4 of the change requests amend it, written from the papers alone:
+//! slow, bit by bit, and sharing nothing with the engine.
 //! Addresses and lengths are handled as u64, so nothing wraps.
 
 pub mod card;
@@ -8,7 +8,6 @@ pub mod mode;
 pub mod pixel;
 pub mod refusal;
 pub mod register;
-#[cfg(feature = "engine")]
 pub mod serial;
 pub mod trace;
 
@@ -27,19 +26,46 @@ pub struct Write {
 pub const FRAME: u8 = 0;
 pub const REGISTER: u8 = 1;
 
-/// "The card we stand in for": one write, answered with its number and pixel count.
-pub fn write(card: &mut Card, vram: &mut [u8], write: Write) -> (u32, u32) {
+/// What one write answers.
+#[derive(Clone, Copy, PartialEq, Eq, Debug)]
+pub struct Answer {
+    pub number: u32,
+    /// The pixels enabled, "whether or not a bit changes".
+    pub pixels: u32,
+    /// The pixels that really changed.
+    pub changed: u32,
+}
+
+/// "The card we stand in for": one write, and its answer.
+pub fn write(card: &mut Card, vram: &mut [u8], write: Write) -> Answer {
     let number = refusal::number(card, vram.len() as u64, write);
     if number != 0 {
         // "A refusal returns count 0 and changes no card state and no VRAM byte."
-        return (number, 0);
+        // Ask 4: "It is 0 for a refused write"
+        return Answer {
+            number,
+            pixels: 0,
+            changed: 0,
+        };
     }
-    let count = if write.space == FRAME {
+    let before = vram.to_vec();
+    let pixels = if write.space == FRAME {
         draw::frame(card, vram, write)
     } else {
         register::accept(card, vram, write)
     };
-    (0, count)
+    Answer {
+        number: 0,
+        pixels,
+        changed: differing(&before, vram),
+    }
+}
+
+/// Ask 4: "the number of pixels whose stored byte differs after a write". The whole picture before is held against the whole
+/// picture after, whatever was drawn between them.
+pub fn differing(before: &[u8], after: &[u8]) -> u32 {
+    let pairs = before.iter().zip(after);
+    pairs.filter(|(old, new)| old != new).count() as u32
 }
 
 /// "Modes", last paragraph: read-back of n pixels from address a, its number only.

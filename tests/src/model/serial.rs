@@ -12,6 +12,7 @@ pub struct Reader {
     number: u32,
     entries: u32,
     pixels: u32,
+    changed: u32,
 }
 
 impl Reader {
@@ -21,6 +22,7 @@ impl Reader {
             number: 0,
             entries: 0,
             pixels: 0,
+            changed: 0,
         }
     }
 
@@ -32,6 +34,11 @@ impl Reader {
     /// Total pixels.
     pub fn pixels(&self) -> u32 {
         self.pixels
+    }
+
+    /// Total of the pixels that changed.
+    pub fn changed(&self) -> u32 {
+        self.changed
     }
 
     /// "After a refusal, later chunks and the end call return the same number and draw nothing."
@@ -72,12 +79,14 @@ impl Reader {
             return 0;
         }
         // "draw each entry once it is whole"
-        let (number, count) = super::write(card, vram, entry(&self.heard, at));
-        if number == 0 {
+        let answer = super::write(card, vram, entry(&self.heard, at));
+        if answer.number == 0 {
             self.entries += 1;
-            self.pixels += count;
+            self.pixels += answer.pixels;
+            // Ask 4: "every mode, run and serial reader sums it"
+            self.changed += answer.changed;
         }
-        number
+        answer.number
     }
 }
 

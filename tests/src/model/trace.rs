@@ -13,6 +13,7 @@ pub struct Ran {
     pub number: u32,
     pub entries: u32,
     pub pixels: u32,
+    pub changed: u32,
     pub rest: u32,
 }
 
@@ -121,6 +122,7 @@ pub fn run(part: &[u8], card: &mut Card, vram: &mut [u8], budget: u32) -> Ran {
         number: 0,
         entries: 0,
         pixels: 0,
+        changed: 0,
         rest: 0,
     };
     if !are_entries(part) {
@@ -132,13 +134,15 @@ pub fn run(part: &[u8], card: &mut Card, vram: &mut [u8], budget: u32) -> Ran {
         return ran;
     }
     while ran.entries < budget && (ran.rest as usize) < part.len() {
-        let (number, count) = super::write(card, vram, entry(part, ran.rest as usize));
-        if number != 0 {
-            ran.number = number;
+        let answer = super::write(card, vram, entry(part, ran.rest as usize));
+        if answer.number != 0 {
+            ran.number = answer.number;
             return ran;
         }
         ran.entries += 1;
-        ran.pixels += count;
+        ran.pixels += answer.pixels;
+        // Ask 4: "every mode, run and serial reader sums it, so a pixel changed twice in a run counts twice"
+        ran.changed += answer.changed;
         ran.rest += ENTRY as u32;
     }
     ran
