@@ -1,6 +1,6 @@
 /* A host in C that keeps one card. It fills a picture grey around marks in a held plane, then draws a caliper by exclusive-or
- * from a recorded trace and takes it off again: by the same trace, on the same card. It says what it sees, and ends with 1
- * where something is not as promised. */
+ * from a recorded trace and takes it off again: by the same trace, on the same card. It says what it sees and what is
+ * answered, the pixels enabled and those changed, and ends with 1 where something is not as promised. */
 #include <stdio.h>
 #include <stdlib.h>
 #include <string.h>
@@ -20,10 +20,19 @@ static void promised(int holds, const char *what) {
     }
 }
 
-static uint32_t draw(uint8_t space, uint32_t address, uint32_t data) {
+static struct zevkholtai_answer draw(uint8_t space, uint32_t address, uint32_t data) {
     struct zevkholtai_answer a = zevkholtai_write(&card, space, 15, address, data, vram, SIZE);
     promised(a.number == 0, "an accepted write");
-    return a.count;
+    return a;
+}
+
+/* Both halves of the picture. */
+static void fill(uint32_t changed) {
+    struct zevkholtai_answer a = draw(FRAME, 0, SIZE / 2 - 1), b = draw(FRAME, SIZE / 2, SIZE / 2 - 1);
+    for (int i = 0; i < SIZE; i++) promised(vram[i] == (marks[i] | GREY), "a grey pixel with its held plane");
+    promised(a.count + b.count == SIZE && a.changed + b.changed == changed, "the pixels of the fill");
+    printf("grey fill: %u pixels, %u changed, the held plane as it was\n", (unsigned)(a.count + b.count),
+           (unsigned)(a.changed + b.changed));
 }
 
 static uint32_t record(uint32_t used, uint8_t space, uint32_t address, uint32_t data) {
@@ -46,10 +55,8 @@ int main(void) {
     draw(REGISTER, FOREGROUND, 0xFFFFFFFF / 255 * (HELD | GREY));
     draw(REGISTER, FILL_MASK, 0xFFFFFFFF);
     draw(REGISTER, MODE, FILL);
-    uint32_t count = draw(FRAME, 0, SIZE / 2 - 1) + draw(FRAME, SIZE / 2, SIZE / 2 - 1);
-    for (int i = 0; i < SIZE; i++) promised(vram[i] == (marks[i] | GREY), "a grey pixel with its held plane");
-    promised(count == SIZE, "the count of the fill");
-    printf("grey fill: %u pixels, the held plane as it was\n", (unsigned)count);
+    fill(SIZE);
+    fill(0); /* a screen sender has nothing to send */
     memcpy(filled, vram, SIZE);
 
     /* A dashed bar, then two uprights at its ends. The one-shot mask cuts the bar, which uses it up. */
@@ -67,16 +74,16 @@ int main(void) {
     for (int turn = 0; turn < 2; turn++) {
         card = saved; /* or the second bar would have no mask, and ten pixels of it would stay */
         struct zevkholtai_ran r = zevkholtai_run(&card, trace + 16, used - 16, vram, SIZE, 4096);
-        promised(r.number == 0 && r.entries == 22 && r.pixels == 56 && r.rest == used - 16, "a whole run");
+        promised(r.number == 0 && r.entries == 22 && r.pixels == 56 && r.changed == 56 && r.rest == used - 16, "a whole run");
         promised(card.mask.marked == 0 && card.mask.bits == 0xFFFFFFFF, "a one-shot mask, used up");
         int n = differing(vram, filled);
         promised(n == (turn == 0 ? 56 : 0), "a caliper");
-        printf("caliper %s: %d pixels differ from the fill\n", turn == 0 ? "drawn" : "taken off", n);
+        printf("caliper %s: %u pixels changed, %d differ from the fill\n", turn == 0 ? "drawn" : "taken off", (unsigned)r.changed, n);
     }
 
     struct zevkholtai_card before = card;
     struct zevkholtai_answer a = zevkholtai_write(&card, FRAME, 15, 62, 1, vram, SIZE);
-    promised(a.number == 7 && a.count == 0, "the number of an address off its boundary");
+    promised(a.number == 7 && a.count == 0 && a.changed == 0, "the number of an address off its boundary");
     promised(memcmp(&card, &before, sizeof card) == 0 && differing(vram, filled) == 0, "a refusal that changes nothing");
     printf("off its boundary: number %u, nothing changed\n", (unsigned)a.number);
     return 0;

@@ -58,10 +58,10 @@ int main(void) {
     struct zevkholtai_ran r = zevkholtai_run(&card, trace + HEADER, sizeof trace - HEADER, ran, SIZE, ENTRIES);
     struct zevkholtai_fed whole = feed(sizeof trace);
     promised(r.number == 0 && whole.reader.number == 0, "a trace that is accepted");
-    promised(whole.reader.applied == r.entries && whole.reader.pixels == r.pixels, "the totals of a run");
+    promised(whole.reader.applied == r.entries && whole.reader.pixels == r.pixels && whole.reader.changed == r.changed, "the totals of a run");
     promised(memcmp(&whole.card, &card, sizeof card) == 0 && memcmp(fed, ran, SIZE) == 0, "the card and picture of a run");
-    printf("in chunks of %d bytes: number %u, %u entries, %u pixels, card and picture as after one run\n", CHUNK,
-           (unsigned)whole.reader.number, (unsigned)whole.reader.applied, (unsigned)whole.reader.pixels);
+    printf("in chunks of %d bytes: number %u, %u entries, %u pixels, %u changed, card and picture as after one run\n", CHUNK,
+           (unsigned)whole.reader.number, (unsigned)whole.reader.applied, (unsigned)whole.reader.pixels, (unsigned)whole.reader.changed);
 
     /* Broken off in the fifth bar, whose entry never is whole: four bars are drawn, and stay. */
     struct zevkholtai_fed part = feed(HEADER + ENTRY * (SETTING + 4) + 7);

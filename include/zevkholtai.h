@@ -22,10 +22,10 @@
  *   10  trace bytes malformed
  *   11  no room for a trace entry or header
  *
- * Made twice, a list of writes leaves every picture as it was, and gives the same numbers and counts both times, on two
- * conditions. Every write that draws does so under raster operation 5, 6, 9 or 10 and obeys it (is no frame write in a
- * block mode), and none reads pixels into the copy buffer. Both times start from the same card: save it before the first
- * and put it back before the second, so that, say, a one-shot pixel mask is set again. See examples/host.c.
+ * Made twice, a list of writes leaves every picture as it was, and gives the same answers both times, the pixels changed
+ * too, on two conditions. Every write that draws does so under raster operation 5, 6, 9 or 10 and obeys it (is no frame
+ * write in a block mode), and none reads pixels into the copy buffer. Both times start from the same card: save it before
+ * the first and put it back before the second, so that, say, a one-shot pixel mask is set again. See examples/host.c.
  */
 #ifndef ZEVKHOLTAI_H
 #define ZEVKHOLTAI_H
@@ -69,7 +69,8 @@ struct zevkholtai_card {
 
 struct zevkholtai_answer {
     uint32_t number;
-    uint32_t count; /* pixels enabled, whether or not a bit changed; 0 where refused */
+    uint32_t count;   /* pixels enabled, whether or not a bit changed; 0 where refused */
+    uint32_t changed; /* pixels whose byte is another now: at most count; 0 exactly where every byte of VRAM stayed */
 };
 
 struct zevkholtai_checked {
@@ -81,17 +82,19 @@ struct zevkholtai_ran {
     uint32_t number;
     uint32_t entries; /* entries applied: at most the budget, the entries of the part, and 4,096 */
     uint32_t pixels;  /* total count of these: at most 8,388,608 */
+    uint32_t changed; /* total changed by these: at most pixels; a pixel that two of them change counts twice */
     uint32_t rest;    /* the unread part begins at this byte of the part: 12 * entries */
 };
 
-/* What waits between two chunks of a trace: 40 bytes, no padding. After any calls from a new reader, applied is at most
- * announced and 4,096, and pixels at most 8,388,608. */
+/* What waits between two chunks of a trace: 44 bytes, no padding. After any calls from a new reader, applied is at most
+ * announced and 4,096, pixels at most 8,388,608, and changed at most pixels. */
 struct zevkholtai_reader {
     uint32_t number;     /* what the last call answered; it sticks where it is not 0 */
     uint32_t opened;     /* a mark: the header is read */
     uint32_t announced;  /* entries that the header announces */
     uint32_t applied;    /* entries applied */
     uint32_t pixels;     /* total count of these */
+    uint32_t changed;    /* total changed by these */
     uint32_t filled;     /* bytes that wait, of a header or an entry that is not whole yet */
     uint8_t waiting[16]; /* these, in front */
 };
@@ -145,8 +148,8 @@ struct zevkholtai_reader zevkholtai_new_reader(void);
  * answer it, and change nothing.
  *
  * A reader whose number is 0 answers 10, before 1, and nothing else changes, where 16 bytes or more wait, 12 or more once
- * the header is read, more entries are applied than announced, over 4,096 are announced, or there are more than 2,048 pixels
- * an entry: no bytes can leave it so. */
+ * the header is read, more entries are applied than announced, over 4,096 are announced, there are more than 2,048 pixels
+ * an entry, or more are changed than counted: no bytes can leave it so. */
 struct zevkholtai_fed zevkholtai_chunk(struct zevkholtai_reader reader, struct zevkholtai_card card, const uint8_t *bytes,
                                        size_t size, uint8_t *vram, size_t length);
 
@@ -167,12 +170,12 @@ ZEVKHOLTAI_HOLDS(sizeof(struct zevkholtai_registers) == 56);
 ZEVKHOLTAI_HOLDS(sizeof(struct zevkholtai_mask) == 8);
 ZEVKHOLTAI_HOLDS(sizeof(struct zevkholtai_copier) == 72);
 ZEVKHOLTAI_HOLDS(sizeof(struct zevkholtai_card) == 140);
-ZEVKHOLTAI_HOLDS(sizeof(struct zevkholtai_answer) == 8);
+ZEVKHOLTAI_HOLDS(sizeof(struct zevkholtai_answer) == 12);
 ZEVKHOLTAI_HOLDS(sizeof(struct zevkholtai_checked) == 8);
-ZEVKHOLTAI_HOLDS(sizeof(struct zevkholtai_ran) == 16);
-ZEVKHOLTAI_HOLDS(sizeof(struct zevkholtai_reader) == 40);
-ZEVKHOLTAI_HOLDS(sizeof(struct zevkholtai_fed) == 180);
-ZEVKHOLTAI_HOLDS(offsetof(struct zevkholtai_fed, card) == 40);
+ZEVKHOLTAI_HOLDS(sizeof(struct zevkholtai_ran) == 20);
+ZEVKHOLTAI_HOLDS(sizeof(struct zevkholtai_reader) == 44);
+ZEVKHOLTAI_HOLDS(sizeof(struct zevkholtai_fed) == 184);
+ZEVKHOLTAI_HOLDS(offsetof(struct zevkholtai_fed, card) == 44);
 ZEVKHOLTAI_AT(registers.foreground, 0);
 ZEVKHOLTAI_AT(registers.background, 4);
 ZEVKHOLTAI_AT(registers.plane, 8);
@@ -191,8 +194,9 @@ ZEVKHOLTAI_READS(opened, 4);
 ZEVKHOLTAI_READS(announced, 8);
 ZEVKHOLTAI_READS(applied, 12);
 ZEVKHOLTAI_READS(pixels, 16);
-ZEVKHOLTAI_READS(filled, 20);
-ZEVKHOLTAI_READS(waiting, 24);
+ZEVKHOLTAI_READS(changed, 20);
+ZEVKHOLTAI_READS(filled, 24);
+ZEVKHOLTAI_READS(waiting, 28);
 #undef ZEVKHOLTAI_READS
 #undef ZEVKHOLTAI_AT
 #undef ZEVKHOLTAI_HOLDS

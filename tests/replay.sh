@@ -19,16 +19,16 @@ status() {
     "$front" replay "$@" >"$room/out" 2>"$room/err" || got=$?
 }
 
-# NAME, WIDTH, the number and the entries expected; the expected picture has the length of VRAM.
+# NAME, WIDTH, the number, entries, pixels and pixels changed expected; the expected picture has the length of VRAM. The pixels are the
+# reference model's, as in src/recorded.rs.
 case_is() {
-    name=$1 width=$2 number=$3 entries=$4
+    name=$1 width=$2 number=$3 entries=$4 pixels=$5 changed=$6
     picture=$room/$name.pgm
     bytes=$(wc -c <"$tests/cases/$name.expected")
     status "$tests/cases/$name.trace" "$picture" "$width"
     [ "$got" -eq $((number != 0)) ] || wrong "$name: exit status $got"
-    printf 'number %s\nentries %s\nvram %s\n' "$number" "$entries" "$bytes" >"$room/want"
-    grep -v '^pixels [0-9][0-9]*$' "$room/out" | cmp -s - "$room/want" || wrong "$name: it said $(cat "$room/out")"
-    [ "$(wc -l <"$room/out")" -eq 4 ] || wrong "$name: not four lines"
+    printf 'number %s\nentries %s\npixels %s\nvram %s\nchanged %s\n' "$number" "$entries" "$pixels" "$bytes" "$changed" |
+        cmp -s - "$room/out" || wrong "$name: it said $(cat "$room/out")"
     { printf 'P5\n%s %s\n255\n' "$width" $((bytes / width)); cat "$tests/cases/$name.expected"; } | cmp -s - "$picture" ||
         wrong "$name: another picture"
     passed=$((passed + 1))
@@ -50,17 +50,17 @@ arrives_as() {
     passed=$((passed + 1))
 }
 
-# A trace that arrives broken, as the command writes it: status 1, and 10 with these entries, pixels and length of VRAM. It leaves a
-# picture where this length is not 0.
+# A trace that arrives broken, as the command writes it: status 1, and 10 with these entries, pixels, pixels changed and length of VRAM.
+# It leaves a picture where this length is not 0.
 breaks_as() {
-    what=$1 entries=$2 pixels=$3 bytes=$4 width=$5
-    shift 5
+    what=$1 entries=$2 pixels=$3 changed=$4 bytes=$5 width=$6
+    shift 6
     rm -f "$room/broken.pgm"
     "$@" | {
         status - "$room/broken.pgm" "$width"
         [ "$got" -eq 1 ] || wrong "$what: exit status $got, not 1"
     }
-    printf 'number 10\nentries %s\npixels %s\nvram %s\n' "$entries" "$pixels" "$bytes" | cmp -s - "$room/out" ||
+    printf 'number 10\nentries %s\npixels %s\nvram %s\nchanged %s\n' "$entries" "$pixels" "$bytes" "$changed" | cmp -s - "$room/out" ||
         wrong "$what: it said $(cat "$room/out")"
     if [ "$bytes" -gt 0 ]; then
         [ -e "$room/broken.pgm" ] || wrong "$what: it left no picture"
@@ -121,14 +121,14 @@ error_is() {
     passed=$((passed + 1))
 }
 
-case_is l8-000 8 0 811
-case_is l8-004 640 0 468
-case_is l8-012 64 0 830
-case_is l8-015e 72 8 4080
-case_is l8-021 512 0 4076
-case_is x8-000-ask1 512 0 988
-case_is x8-009 512 0 477
-case_is x8-015 512 0 491
+case_is l8-000 8 0 811 3478 2094
+case_is l8-004 640 0 468 10672 9995
+case_is l8-012 64 0 830 10433 7790
+case_is l8-015e 72 8 4080 128360 125176
+case_is l8-021 512 0 4076 217148 193324
+case_is x8-000-ask1 512 0 988 39049 30498
+case_is x8-009 512 0 477 36285 30602
+case_is x8-015 512 0 491 36434 27020
 
 error_is 'No such file' "$room/missing.trace" "$room/none.pgm"
 error_is 'WIDTH does not divide' "$tests/cases/l8-000.trace" "$room/none.pgm" 7
@@ -144,7 +144,7 @@ head -c 100 "$tests/cases/l8-000.trace" >"$room/cut.trace"
 status "$room/cut.trace" "$room/none.pgm" 8
 [ "$got" -eq 1 ] || wrong "a cut trace: exit status $got, not 1"
 [ ! -e "$room/none.pgm" ] || wrong "a cut trace left a picture"
-printf 'number 10\nentries 0\npixels 0\nvram 0\n' | cmp -s - "$room/out" || wrong "a cut trace: it said $(cat "$room/out")"
+printf 'number 10\nentries 0\npixels 0\nvram 0\nchanged 0\n' | cmp -s - "$room/out" || wrong "a cut trace: it said $(cat "$room/out")"
 
 # a trace that arrives in pieces, or with the sender still there after its last byte
 trace=$tests/cases/l8-000.trace
@@ -153,20 +153,21 @@ arrives_as l8-000 8 in_pieces "$trace"
 arrives_as l8-000 8 byte_by_byte "$trace"
 arrives_as l8-000 8 stays_after "$trace"
 
-# one that breaks off, goes on past its total, or is none: what was drawn so far is left. 40 entries and 5 bytes arrive.
-first_entries 40 "$trace" >"$room/first.trace"
+# one that breaks off, goes on past its total, or is none: what was drawn so far is left. 80 entries and 5 bytes arrive.
+first_entries 80 "$trace" >"$room/first.trace"
 status "$room/first.trace" "$room/first.pgm" 8
 [ "$got" -eq 0 ] || wrong "the first entries: exit status $got, not 0"
 drawn=$(sed -n 's/^pixels //p' "$room/out")
-[ "$drawn" -gt 0 ] || wrong "the first entries draw nothing"
-breaks_as 'a trace that breaks off' 40 "$drawn" 512 8 head -c $((16 + 12 * 40 + 5)) "$trace"
+changed=$(sed -n 's/^changed //p' "$room/out")
+[ "$drawn" -gt 0 ] && [ "$changed" -gt 0 ] || wrong "the first entries draw nothing"
+breaks_as 'a trace that breaks off' 80 "$drawn" "$changed" 512 8 head -c $((16 + 12 * 80 + 5)) "$trace"
 cmp -s "$room/broken.pgm" "$room/first.pgm" || wrong "a trace that breaks off: another picture"
-breaks_as 'an endless stream after a trace' 40 "$drawn" 512 8 cat "$room/first.trace" /dev/zero
+breaks_as 'an endless stream after a trace' 80 "$drawn" "$changed" 512 8 cat "$room/first.trace" /dev/zero
 cmp -s "$room/broken.pgm" "$room/first.pgm" || wrong "an endless stream after a trace: another picture"
-breaks_as 'a header and no more' 0 0 512 8 head -c 16 "$trace"
-breaks_as 'a part of a header' 0 0 0 8 head -c 15 "$trace"
-breaks_as 'an endless stream' 0 0 0 8 cat /dev/zero
-breaks_as 'no input' 0 0 0 8 true
+breaks_as 'a header and no more' 0 0 0 512 8 head -c 16 "$trace"
+breaks_as 'a part of a header' 0 0 0 0 8 head -c 15 "$trace"
+breaks_as 'an endless stream' 0 0 0 0 8 cat /dev/zero
+breaks_as 'no input' 0 0 0 0 8 true
 error_is 'WIDTH does not divide' - "$room/none.pgm" 7 <"$trace"
 error_is 'standard input: Is a directory' - "$room/none.pgm" <"$room"
 

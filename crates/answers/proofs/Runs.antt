@@ -15,13 +15,14 @@ module _ (part : List ℕ) (budget : ℕ) (c : Card) (v : List ℕ) {r : Ran} {v
   rest-fits = omega (arith, outcome part budget c v .within-largest, ap (λ (s : State). s .applied) e)
 
   -- what a run answers, with the offset of its unread part
-  pub replayed : Replayed part budget c v (record { number = r .number; entries = r .applied; pixels = r .pixels; rest = 12 * r .applied }) (r .card) v′
+  pub replayed : Replayed part budget c v (record { number = r .number; entries = r .applied; pixels = r .pixels; changed = r .changed; rest = 12 * r .applied }) (r .card) v′
   unfolding unread
   replayed =
       record {
         number = ap (λ (s : State). s .number) e;
         entries = ap (λ (s : State). s .applied) e;
         pixels = ap (λ (s : State). s .pixels) e;
+        changes = ap (λ (s : State). s .changed) e;
         rest = ap (λ (s : State). 12 * s .applied) e;
         unreads = ap (λ (s : State). drop (12 * s .applied) part) e;
         leaves = ap (λ (s : State). s .card) e;

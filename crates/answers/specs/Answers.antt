@@ -7,7 +7,7 @@ use lib.ListN.{length, drop}
 use Rattle.card.specs.declared.Card.{Card}
 use Rattle.card.specs.declared.Write.{Write}
 use Rattle.rules.specs.Refusal.{refusal}
-use Rattle.rules.specs.Writes.{count, next, picture}
+use Rattle.rules.specs.Writes.{count, next, picture, changed}
 use Rattle.format.specs.Traces.{entrySize}
 use Rattle.trace.specs.Run.{run, unread}
 use Rattle.answers.specs.declared.Answer.{Answer}
@@ -21,6 +21,7 @@ writeOf space lanes address word = record { space = space; lanes = lanes; addres
 pub record Wrote (c : Card) (w : Write) (v : List ℕ) (r : Answer) (c′ : Card) (v′ : List ℕ) : Type 0 where
   pub number : r .number ≡ refusal c w (length v)
   pub counts : r .count ≡ count c w (length v)
+  pub changes : r .changed ≡ changed c w v
   pub leaves : c′ ≡ next c w v
   pub shows : v′ ≡ picture c w v
 
@@ -30,6 +31,7 @@ pub record Replayed (part : List ℕ) (budget : ℕ) (c : Card) (v : List ℕ) (
   pub number : r .number ≡ run part budget c v .number
   pub entries : r .entries ≡ run part budget c v .applied
   pub pixels : r .pixels ≡ run part budget c v .pixels
+  pub changes : r .changed ≡ run part budget c v .changed
   pub rest : r .rest ≡ entrySize * run part budget c v .applied
   pub unreads : drop (r .rest) part ≡ unread part (run part budget c v .applied)
   pub leaves : c′ ≡ run part budget c v .card

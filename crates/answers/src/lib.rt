@@ -8,19 +8,21 @@ use card::Card;
 use card::Write;
 use format::STEP;
 
-// What a write answers: its number and the pixels enabled.
+// What a write answers: its number, the pixels enabled, and those changed.
 #[repr(C)]
 pub struct Answer {
     pub number: u32,
     pub count: u32,
+    pub changed: u32,
 }
 
-// What a run answers: the number, the entries applied, the total pixels, and where the unread part begins.
+// What a run answers: the number, the entries applied, the total pixels, those changed, and where the unread part begins.
 #[repr(C)]
 pub struct Ran {
     pub number: u32,
     pub entries: u32,
     pub pixels: u32,
+    pub changed: u32,
     pub rest: u32,
 }
 
@@ -60,6 +62,7 @@ pub fn write_on(
     let answer = Answer {
         number: told.answer.number,
         count: told.answer.tally.enabled,
+        changed: told.answer.tally.changed,
     };
     Written {
         card: next,
@@ -79,6 +82,7 @@ pub fn run_on(card: Card, part: &[u8], vram: &mut [u8], budget: u32) -> Run
         number: t.number,
         entries: t.applied,
         pixels: t.pixels,
+        changed: t.changed,
         rest,
     };
     Run { card: next, ran }

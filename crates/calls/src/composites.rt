@@ -17,14 +17,16 @@ fn four_bits(op: u8) -> u8
     8 * new_bit(op, 1, 1) + 4 * new_bit(op, 1, 0) + 2 * new_bit(op, 0, 1) + new_bit(op, 0, 0)
 }
 
-// Bits 7:4 of the pixel drawn, then bits 3:0: all eight cases of mask, source and old bit.
+// Bits 7:4 of the pixel drawn, then bits 3:0: all eight cases of mask, source and old bit. It changes where those four bits do.
 fn made(right: u32, op: u8) -> u32 {
     let bits = four_bits(op);
-    let t = with(
-        right,
-        pixels::make(op, 0xF0, 0xCC, 0xAA) == 16 * bits + 0x0A,
-    );
-    with(t, pixels::make(op, 0x0F, 0xCC, 0xAA) == 0xA0 + bits)
+    let changes = bits != 0x0A;
+    let high = pixels::make(op, 0xF0, 0xCC, 0xAA);
+    let low = pixels::make(op, 0x0F, 0xCC, 0xAA);
+    let t = with(right, high.byte == 16 * bits + 0x0A);
+    let t = with(t, high.changed == changes);
+    let t = with(t, low.byte == 0xA0 + bits);
+    with(t, low.changed == changes)
 }
 
 // A pixel under every operation.

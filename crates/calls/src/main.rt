@@ -54,7 +54,7 @@ fn operations() {
     says(
         b"one pixel under every operation: ",
         composites::one_pixel(),
-        32,
+        64,
     );
     says(b"composites of S9: ", composites::s9(), 4);
     says(b"composites by the rule: ", composites::by_the_rule(), 256);

@@ -4,8 +4,8 @@ use mathlib.Core.List.{List, [], _∷_}
 use mathlib.Core.Logic.{inl, inr}
 use lib.ListN.{replicate}
 use Rattle.raster.specs.Pixel.{bit, number, result, made}
-use Rattle.span.specs.Fragments.{byte, from, before, drawn, counted, listed}
-use Rattle.span.specs.Layers.{drawnAll}
+use Rattle.span.specs.Fragments.{byte, from, before, drawn, counted, differing, listed}
+use Rattle.span.specs.Layers.{drawnAll, changedAll}
 use Rattle.span.specs.Spans.{spanned}
 use Rattle.card.specs.declared.Write.{Write}
 use Rattle.card.specs.Registers.{rowAt, rowIn, table}
@@ -13,7 +13,7 @@ use Rattle.card.specs.Access.{stores}
 use Rattle.card.specs.Reset.{resetCard}
 use Rattle.rules.specs.Modes.{modeOf, frameSpan, spansOf, effectiveBy}
 use Rattle.rules.specs.Refusal.{badLength, badSpace, badLanes, noRegister, badMode, badRaster, offBoundary, outside, unloaded, refusal}
-use Rattle.rules.specs.Writes.{count, operation, layers, picture, sourced, afterFrame, afterRegister, next}
+use Rattle.rules.specs.Writes.{count, operation, layers, picture, changed, sourced, afterFrame, afterRegister, next}
 use Rattle.rules.specs.Sequences.{answersOf, EachUndoable}
 
 abbrev caliper : List Write
@@ -21,6 +21,6 @@ caliper =
     record { space = 1; lanes = 15; address = 0x0034; «data» = 6 } ∷ record { space = 0; lanes = 15; address = 0; «data» = 0x44332211 } ∷ []
 
 pub met : EachUndoable caliper (resetCard 0) (replicate 64 0)
-    × (answersOf caliper (resetCard 0) (replicate 64 0) ≡ (0, 0) ∷ (0, 4) ∷ [])
-unfolding answersOf refusal badLength badSpace badLanes noRegister badMode badRaster offBoundary outside unloaded modeOf frameSpan spansOf spanned effectiveBy count operation layers picture sourced afterFrame afterRegister next resetCard rowAt rowIn table stores byte from before drawn drawnAll counted listed made number result bit
+    × (answersOf caliper (resetCard 0) (replicate 64 0) ≡ (0, 0, 0) ∷ (0, 4, 4) ∷ [])
+unfolding answersOf refusal badLength badSpace badLanes noRegister badMode badRaster offBoundary outside unloaded modeOf frameSpan spansOf spanned effectiveBy count operation layers picture changed sourced afterFrame afterRegister next resetCard rowAt rowIn table stores byte from before drawn drawnAll changedAll counted differing listed made number result bit
 met = ((record { drawing = inl refl; reading = refl }, (record { drawing = inr (tt, refl); reading = refl }, tt)), refl)

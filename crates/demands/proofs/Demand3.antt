@@ -57,7 +57,7 @@ module _ (a : ℕ) (c : Card) (w : Write) where
   unfolding count
   count-alike n = simp (number-alike n, spans-same)
 
-  layers-same : (n : ℕ) → layers (withOperation a c) w n ≡ layers c w n
+  pub layers-same : (n : ℕ) → layers (withOperation a c) w n ≡ layers c w n
   unfolding layers
   layers-same n = rw (number-alike n, spans-same)
 
@@ -67,18 +67,22 @@ low-bits r a s d =
     let e : (r / 16 * 16 + a % 16) % 16 ≡ a % 16 = omega arith in
     sym (result-low (r / 16 * 16 + a % 16) s d) ∙ (ap (λ (n : ℕ). result n s d) e ∙ result-low a s d)
 
--- one draw with a: a itself, or 3 in a block mode, of layers that do not know a
+-- a draw with a gives the bits of a itself, or of 3 in a block mode
+pub operation-with : (a : ℕ) (c : Card) (w : Write) (s d : Bool) → result (operation (withOperation a c) w) s d ≡ result (cond (inBlockMode c w) 3 a) s d
+unfolding operation
+operation-with a c w s d = go (inBlockMode c w)
+  where
+    go : (b : Bool) → result (cond b 3 (c .registers .raster / 16 * 16 + a % 16)) s d ≡ result (cond b 3 a) s d
+    go true = refl
+    go false = low-bits (c .registers .raster) a s d
+
+-- and draws layers that do not know a
 picture-with : (a : ℕ) (c : Card) (w : Write) (v : List ℕ)
     → drawnWith a c w v ≡ drawnAll (cond (inBlockMode c w) 3 a) (layers c w (length v)) v
-unfolding picture operation
+unfolding picture
 picture-with a c w v =
-    ap (λ (fs : List (ℕ → Fragment)). drawnAll (cond (inBlockMode c w) 3 (c .registers .raster / 16 * 16 + a % 16)) fs v) (layers-same a c w (length v))
-    ∙ go (inBlockMode c w)
-  where
-    go : (b : Bool)
-        → drawnAll (cond b 3 (c .registers .raster / 16 * 16 + a % 16)) (layers c w (length v)) v ≡ drawnAll (cond b 3 a) (layers c w (length v)) v
-    go true = refl
-    go false = drawnAll-op _ a (layers c w (length v)) v (low-bits (c .registers .raster) a)
+    ap (λ (fs : List (ℕ → Fragment)). drawnAll (operation (withOperation a c) w) fs v) (layers-same a c w (length v))
+    ∙ drawnAll-op _ _ (layers c w (length v)) v (operation-with a c w)
 
 -- two draws, on one picture after the other
 picture-twice : (a b : ℕ) (c : Card) (w : Write) (v : List ℕ)

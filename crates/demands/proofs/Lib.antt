@@ -4,6 +4,8 @@ pub mod Demand1
 pub mod Demand2
 pub mod Demand3
 pub mod Witness
+pub mod Changed
+pub mod ChangedSample
 pub mod Quiet
 pub mod Caliper
 pub mod CaliperSample

@@ -1,11 +1,13 @@
 // The demonstration: a bedside screen of 256 by 256 pixels, drawn through the engine's writes alone.
 // The alarm border stands in plane 7. A card that holds every other plane draws it, and the card that draws all the rest holds
 // plane 7, so its grey fill leaves the border. A hatched band is drawn in two fills a row, which meet. A caliper is drawn by exclusive-or
-// and taken off the same way.
+// and taken off the same way, and the engine says both times how many pixels changed.
 // With a name as argument it also writes the picture there, as a PGM.
 use card::Card;
 use card::Write;
+use engine::Answer;
 use libc::STDOUT_FILENO;
+use std::num::wrapping_add_u32;
 
 const FOREGROUND: u32 = 0x0020;
 
@@ -68,7 +70,7 @@ fn register(card: Card, offset: u32, data: u32, vram: &mut [u8]) -> Card {
 }
 
 // One row of a fill: `width` + 1 pixels from column x of row y on.
-fn row(card: Card, x: u8, y: u32, width: u8, vram: &mut [u8]) -> Card {
+fn row(card: Card, x: u8, y: u32, width: u8, vram: &mut [u8]) -> Answer {
     let column = x as u32;
     let w = Write {
         space: 0,
@@ -76,8 +78,7 @@ fn row(card: Card, x: u8, y: u32, width: u8, vram: &mut [u8]) -> Card {
         address: y % 256 * 256 + column / 4 * 4,
         data: column % 4 * 65536 + width as u32,
     };
-    let a = engine::write(card, w, vram);
-    a.card
+    engine::write(card, w, vram)
 }
 
 // A filled box of `width` + 1 columns and `rows` rows.
@@ -85,7 +86,8 @@ fn filled(card: Card, x: u8, y: u8, width: u8, rows: u32, vram: &mut [u8]) -> Ca
     let mut card = card;
     let mut i: u32 = 0;
     while i < rows {
-        card = row(card, x, y as u32 + i % 256, width, vram);
+        let a = row(card, x, y as u32 + i % 256, width, vram);
+        card = a.card;
         i += 1;
     }
     card
@@ -146,23 +148,37 @@ fn hatch(card: Card, x: u8, width: u8, vram: &mut [u8]) {
     let mut i: u32 = 0;
     while i < 24 {
         card = register(card, FILL_MASK, HATCH[(i % 8) as usize], vram);
-        card = row(card, x, i + 208, width, vram);
+        let a = row(card, x, i + 208, width, vram);
+        card = a.card;
         i += 1;
     }
 }
 
-// The caliper's marks: two upright lines and a bar between them.
-fn marks(card: Card, vram: &mut [u8]) -> Card {
-    let card = filled(card, 31, 60, 0, 130, vram);
-    let card = filled(card, 95, 60, 0, 130, vram);
-    filled(card, 32, 124, 62, 1, vram)
+// An upright line, from row 60 on, and how many pixels the engine says it changed. A fill leaves the card as it is.
+fn upright(card: Card, x: u8, vram: &mut [u8]) -> u32 {
+    let mut changed: u32 = 0;
+    let mut i: u32 = 0;
+    while i < 130 {
+        let a = row(card, x, i + 60, 0, vram);
+        changed = wrapping_add_u32(changed, a.tally.changed);
+        i += 1;
+    }
+    changed
 }
 
-// The caliper, by exclusive-or in its colour. Made again from the same card, it is taken off.
-fn caliper(card: Card, vram: &mut [u8]) {
+// The caliper's marks: two upright lines and a bar between them.
+fn marks(card: Card, vram: &mut [u8]) -> u32 {
+    let left = upright(card, 31, vram);
+    let right = upright(card, 95, vram);
+    let bar = row(card, 32, 124, 62, vram);
+    wrapping_add_u32(wrapping_add_u32(left, right), bar.tally.changed)
+}
+
+// The caliper, by exclusive-or in its colour, and how many pixels it changed. Made again from the same card, it is taken off.
+fn caliper(card: Card, vram: &mut [u8]) -> u32 {
     let card = register(card, RASTER_OPERATION, XOR, vram);
     let card = register(card, FOREGROUND, 0x40404040, vram);
-    marks(card, vram);
+    marks(card, vram)
 }
 
 fn line(what: &[u8], n: usize) {
@@ -214,17 +230,21 @@ fn hatched(card: Card, vram: &mut [u8; 65536]) {
 // The caliper, drawn and taken off from one card.
 fn measured(card: Card, vram: &mut [u8; 65536]) {
     let before = *vram;
-    caliper(card, vram);
+    let drawn = caliper(card, vram);
     line(
         b"caliper drawn by exclusive-or, pixels changed: ",
-        counting::differing(vram, &before),
+        drawn as usize,
     );
     if os::arg_count() > 1 {
         save(vram);
     }
-    caliper(card, vram);
+    let taken_off = caliper(card, vram);
     line(
-        b"caliper taken off the same way, pixels left: ",
+        b"caliper taken off the same way, pixels changed: ",
+        taken_off as usize,
+    );
+    line(
+        b"pixels left of the caliper: ",
         counting::differing(vram, &before),
     );
 }

@@ -28,4 +28,4 @@ pub carried : {p q : Plan} (c : Card) (v : List ℕ) {r : Tally} {v′ : List �
     → Tried p c v r v′ → CarriedOut q c v r v′
 carried {p} {q} c v {r} {v′} e can t =
     let u : Tried q c v r v′ = subst (λ (x : Plan). Tried x c v r v′) e t in
-    record { shows = rw can at (u .shows); counts = rw can at (u .counts) }
+    record { shows = rw can at (u .shows); counts = rw can at (u .counts); changes = u .changes }

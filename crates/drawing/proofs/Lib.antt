@@ -2,3 +2,4 @@
 pub mod Sources
 pub mod Paints
 pub mod Fitting
+pub mod Halved

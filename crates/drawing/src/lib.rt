@@ -69,7 +69,7 @@ fn halves(p: Plan, card: Card, vram: &mut [u8]) -> Tally
     let high = brush::half_strokes(p, card, 32);
     let lower = strokes::draw_at(vram, first, low);
     let upper = strokes::draw_at(vram, first + 32, high);
-    Tally {
-        enabled: lower.enabled + upper.enabled,
-    }
+    let enabled = lower.enabled + upper.enabled;
+    let changed = lower.changed + upper.changed;
+    Tally { enabled, changed }
 }

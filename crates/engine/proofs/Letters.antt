@@ -9,7 +9,7 @@ use lib.Dec.{eqb, leb}
 use lib.ListN.{length}
 use borrow.Author.Tests.{eq-eqb, ne-eqb, eqb-true}
 use Rattle.raster.specs.Pixel.{bit}
-use Rattle.span.specs.Fragments.{drawn, before, from, counted, byte}
+use Rattle.span.specs.Fragments.{drawn, before, from, counted, differing, byte}
 use Rattle.span.specs.Spans.{spanned, enabledIn}
 use Rattle.span.specs.Strokes.{patternByte, stroke, enabled, Draws}
 use Rattle.span.specs.declared.Strokes.{Strokes}
@@ -20,8 +20,9 @@ use Rattle.card.specs.declared.Card.{Card}
 use Rattle.card.specs.declared.Write.{Write}
 use Rattle.rules.specs.Modes.{modeOf, effective, effectiveBy, frameSpan}
 use Rattle.rules.specs.Refusal.{offBoundary, refusal}
-use Rattle.rules.specs.Writes.{count, next, picture}
+use Rattle.rules.specs.Writes.{count, next, picture, changed}
 use Rattle.rules.specs.declared.Mode.the-variants.{OpaqueStipple}
+use Rattle.demands.proofs.Changed.{whole}
 use Rattle.rules.proofs.Outcome.{accepted-passed, next-refused}
 use Rattle.rules.proofs.Tests.{not-not, both}
 use Rattle.plan.specs.Plan.{planOf, framePlan, planned, left}
@@ -76,13 +77,15 @@ module _ (c : Card) (w : Write) (t : isText c w ≡ true) where
 
       pub text-drawn : {r : Tally} {v′ : List ℕ}
           → v′ ≡ cond (leb (w .address + 32) (length v)) (drawn 3 (from (w .address) (before 32 (stroke s))) v) v → r .enabled ≡ counted 32 (enabled s)
-          → (v′ ≡ picture c w v) × (r .enabled ≡ count c w (length v))
+          → r .changed ≡ differing v v′ → (v′ ≡ picture c w v) × (r .enabled ≡ count c w (length v)) × (r .changed ≡ changed c w v)
       unfolding frameSpan
-      text-drawn l n =
+      text-drawn l n ch =
           let inside : w .address + 32 ≤ length v = subst (λ (p : Plan). p .first + p .width ≤ length v) text-plan (planned-inside c w v ok) in
-          let e = drew s _ (effective c) (planned (framePlan OpaqueStipple c w) c) text-draws (w .address) v (lettered s (w .address) v eo ew inside l n) refl inside in (
-            e .0 ∙ sym (planned-shows c w v ok ∙ ap (λ (p : Plan). drawn (p .op) (spanned (effective c) (planned p c)) v) text-plan),
+          let e = drew s _ (effective c) (planned (framePlan OpaqueStipple c w) c) text-draws (w .address) v (lettered s (w .address) v eo ew inside l n ch) refl inside in
+          let shown = e .0 ∙ sym (planned-shows c w v ok ∙ ap (λ (p : Plan). drawn (p .op) (spanned (effective c) (planned p c)) v) text-plan) in (
+            shown,
             e .1 ∙ sym (planned-counts c w v ok ∙ ap (λ (p : Plan). enabledIn (planned p c)) text-plan),
+            e .2 ∙ (ap (differing v) shown ∙ sym (whole c w v)),
           )
 
     pub text-leaves : left UsesMask c w v ≡ next c w v

@@ -88,12 +88,12 @@ fn text(card: Card, w: Write, vram: &mut [u8]) -> Answer
         mask,
         width: 32,
     };
-    strokes::text_at(vram, w.address, s);
+    let changed = strokes::text_at(vram, w.address, s);
     let enabled = enabled_by(pixels);
     let next = effects::mask_used(card);
     Answer {
         number: 0,
-        tally: Tally { enabled },
+        tally: Tally { enabled, changed },
         card: next,
     }
 }
@@ -116,7 +116,7 @@ fn is_text(card: Card, w: Write) -> bool
 
 // ---- One write.
 
-// A refused write answers its number with no pixel counted, and leaves the card and every byte of VRAM. Beside the answer it says what a host need not store.
+// A refused write answers its number with no pixel counted or changed, and leaves the card and every byte of VRAM. Beside the answer it says what a host need not store.
 pub fn tell(card: Card, w: Write, vram: &mut [u8]) -> Told
     ensures { λ r. ⌜ Written card w (now (vram .entry)) (r .answer) (now (vram .exit))
         × (r .kept ≡ keeps card w (length (now (vram .entry)))) ⌝ }

@@ -28,9 +28,14 @@ module _ (r : Reader) where
   unfolding sound
   over-largest h = simp (lt-leb _ _ h, and-false)
 
-  pub by-pixels : r .filled < awaited r → r .applied ≤ r .announced → r .announced ≤ largest → leb (r .pixels) (2048 * r .applied) ≡ sound r
+  pub over-widest : 2048 * r .applied < r .pixels → false ≡ sound r
   unfolding sound
-  by-pixels f h l = simp (lt-ltb _ _ f, le-leb _ _ h, le-leb _ _ l)
+  over-widest h = simp (lt-leb _ _ h, and-false)
+
+  pub by-changed : r .filled < awaited r → r .applied ≤ r .announced → r .announced ≤ largest → r .pixels ≤ 2048 * r .applied
+      → leb (r .changed) (r .pixels) ≡ sound r
+  unfolding sound
+  by-changed f h l p = simp (lt-ltb _ _ f, le-leb _ _ h, le-leb _ _ l, le-leb _ _ p)
 
   -- ---- An entry that lies whole in the chunk.
 

@@ -205,7 +205,7 @@ module _ (v : List ℕ) (c : Card) (p : List ℕ) where
             opened = refl;
             none = refl;
             room = refl;
-            can-be = record { space = omega arith; within = omega arith; few = h .few; total = omega arith };
+            can-be = record { space = omega arith; within = omega arith; few = h .few; total = omega arith; changes = omega arith };
           })
           (zero-add (word v 0))
           (h .header)

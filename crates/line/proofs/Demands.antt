@@ -155,14 +155,14 @@ unfolding chunks
 chunks-sound [] s h = h
 chunks-sound (bs ∷ rest) s h =
     chunks-sound rest (chunk bs s)
-    (by-chunk (λ t. Sound (t .reader)) bs s h (λ n _. record { space = h .space; within = h .within; few = h .few; total = h .total }) (λ _ _. reads-sound bs s h))
+    (by-chunk (λ t. Sound (t .reader)) bs s h (λ n _. record { space = h .space; within = h .within; few = h .few; total = h .total; changes = h .changes }) (λ _ _. reads-sound bs s h))
 
--- at most 4,096 entries and 8,388,608 pixels, from a new reader and from any that can be
+-- at most 4,096 entries and 8,388,608 pixels, and of these at most all changed, from a new reader and from any that can be
 pub totals : (rest : List (List ℕ)) (s : Standing) → sound (s .reader) ≡ true
-    → (chunks rest s .reader .applied ≤ largest) × (chunks rest s .reader .pixels ≤ 8388608)
+    → (chunks rest s .reader .applied ≤ largest) × (chunks rest s .reader .pixels ≤ 8388608) × (chunks rest s .reader .changed ≤ chunks rest s .reader .pixels)
 totals rest s e =
     let h = chunks-sound rest s (to-sound _ e) in
-    (omega (arith, h .within, h .few), omega (arith, h .within, h .few, h .total))
+    (omega (arith, h .within, h .few), omega (arith, h .within, h .few, h .total), h .changes)
 
 -- one that cannot be draws nothing
 pub cannot-be : (bs : List ℕ) (rest : List (List ℕ)) (s : Standing) → s .reader .number ≡ 0 → sound (s .reader) ≡ false

@@ -9,6 +9,7 @@ use lib.ListN.{length, length-set}
 use borrow.Author.Tests.{eq-eqb, ne-eqb, eqb-true, eqb-false, lt-ltb, ltb-true, le-leb, leb-true}
 use Rattle.card.specs.Registers.{isSet}
 use Rattle.card.specs.declared.Write.{Write}
+use Rattle.demands.proofs.Changed.{within}
 use Rattle.demands.proofs.Counting.{count-bound}
 use Rattle.demands.proofs.Demand1.{same-length}
 use Rattle.format.specs.Traces.{largest}
@@ -88,22 +89,24 @@ pub record Sound (r : Reader) : Type 0 where
   pub within : r .applied ≤ r .announced
   pub few : r .announced ≤ largest
   pub total : r .pixels ≤ 2048 * r .applied
+  pub changes : r .changed ≤ r .pixels
 
 pub to-sound : (r : Reader) → sound r ≡ true → Sound r
 unfolding sound
 to-sound r e =
     let (a, x) = both _ _ e in
     let (b, y) = both _ _ x in
-    let (c, d) = both _ _ y in
-    record { space = ltb-true _ _ a; within = leb-true _ _ b; few = leb-true _ _ c; total = leb-true _ _ d }
+    let (c, z) = both _ _ y in
+    let (d, f) = both _ _ z in
+    record { space = ltb-true _ _ a; within = leb-true _ _ b; few = leb-true _ _ c; total = leb-true _ _ d; changes = leb-true _ _ f }
 
 pub of-sound : (r : Reader) → Sound r → sound r ≡ true
 unfolding sound
-of-sound r h = rw (lt-ltb _ _ (h .space), le-leb _ _ (h .within), le-leb _ _ (h .few), le-leb _ _ (h .total))
+of-sound r h = rw (lt-ltb _ _ (h .space), le-leb _ _ (h .within), le-leb _ _ (h .few), le-leb _ _ (h .total), le-leb _ _ (h .changes))
 
 new-sound : Sound newReader
 unfolding newReader
-new-sound = record { space = omega arith; within = omega arith; few = omega arith; total = omega arith }
+new-sound = record { space = omega arith; within = omega arith; few = omega arith; total = omega arith; changes = omega arith }
 
 pub new-can-be : sound newReader ≡ true
 new-can-be = of-sound newReader new-sound
@@ -124,6 +127,7 @@ draws-sound w s o m h =
       total = by-answer (λ t. t .pixels ≤ 2048 * t .applied) w (stateOf s)
           (λ _. omega (arith, h .total, count-bound (s .card) w (length (s .picture))))
           (λ _. h .total);
+      changes = by-answer (λ t. t .changed ≤ t .pixels) w (stateOf s) (λ _. omega (arith, h .changes, within (s .card) w (s .picture))) (λ _. h .changes);
     }
   where
     awaits : (x : Bool) → 0 < cond x 12 16
@@ -133,10 +137,10 @@ draws-sound w s o m h =
 sound-step : {s t : Standing} {b : ℕ} → Sound (s .reader) → Step s b t → Sound (t .reader)
 unfolding waits opens
 sound-step h (stays n) = h
-sound-step h refuses = record { space = h .space; within = h .within; few = h .few; total = h .total }
-sound-step h (waiting l) = record { space = l; within = h .within; few = h .few; total = h .total }
+sound-step h refuses = record { space = h .space; within = h .within; few = h .few; total = h .total; changes = h .changes }
+sound-step h (waiting l) = record { space = l; within = h .within; few = h .few; total = h .total; changes = h .changes }
 sound-step {s = s} h (drawing f o m l) = draws-sound _ s o m h
-sound-step h (opening l g) = record { space = omega arith; within = omega arith; few = headed _ g .few; total = omega arith }
+sound-step h (opening l g) = record { space = omega arith; within = omega arith; few = headed _ g .few; total = omega arith; changes = omega arith }
 
 pub byte-sound : (s : Standing) (b : ℕ) → Sound (s .reader) → Sound (byte s b .reader)
 byte-sound s b h = sound-step h (step s b)

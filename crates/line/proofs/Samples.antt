@@ -5,14 +5,14 @@ use mathlib.Core.List.{List, [], _∷_}
 use Prim.Native.Nat.{ℕ}
 use lib.ListN.{take, drop, replicate}
 use Rattle.raster.specs.Pixel.{bit, number, result, made}
-use Rattle.span.specs.Fragments.{byte as byteAt, from, before, drawn, counted, listed}
-use Rattle.span.specs.Layers.{drawnAll}
+use Rattle.span.specs.Fragments.{byte as byteAt, from, before, drawn, counted, differing, listed}
+use Rattle.span.specs.Layers.{drawnAll, changedAll}
 use Rattle.span.specs.Spans.{spanned}
 use Rattle.card.specs.Registers.{rowAt, rowIn, table}
 use Rattle.card.specs.Reset.{resetCard}
 use Rattle.rules.specs.Modes.{modeOf, frameSpan, spansOf, effectiveBy}
 use Rattle.rules.specs.Refusal.{badLength, badSpace, badLanes, noRegister, badMode, badRaster, offBoundary, outside, unloaded, refusal}
-use Rattle.rules.specs.Writes.{count, operation, layers, picture, sourced, afterFrame, afterRegister, next}
+use Rattle.rules.specs.Writes.{count, operation, layers, picture, changed, sourced, afterFrame, afterRegister, next}
 use Rattle.format.specs.Bytes.{word}
 use Rattle.format.specs.Traces.{writeAt, goodHeader}
 use Rattle.trace.specs.Run.{State, nothing, apply, refuse, ran}
@@ -27,9 +27,9 @@ pieces n = take 20 s12-bytes ∷ [] ∷ take n (drop 20 s12-bytes) ∷ []
 abbrev after : ℕ → State
 after n = stateOf (finished (chunks (pieces n) (fresh (resetCard 0) (replicate 64 0))))
 
-pub arrived : (after 8 .number ≡ 0) × (after 8 .applied ≡ 1) × (after 8 .pixels ≡ 4) × (after 8 .picture ≡ 0x11 ∷ 0x22 ∷ 0x33 ∷ 0x44 ∷ replicate 60 0)
-unfolding newReader complete badPad waits opens draws byte reads sound chunk chunks ended word writeAt goodHeader ran apply refuse resetCard rowAt rowIn table bit number result made byteAt from before drawn counted listed drawnAll spanned modeOf frameSpan spansOf effectiveBy badLength badSpace badLanes noRegister badMode badRaster offBoundary outside unloaded refusal count operation layers picture sourced afterFrame afterRegister next
-arrived = (refl, refl, refl, refl)
+pub arrived : (after 8 .number ≡ 0) × (after 8 .applied ≡ 1) × (after 8 .pixels ≡ 4) × (after 8 .changed ≡ 4) × (after 8 .picture ≡ 0x11 ∷ 0x22 ∷ 0x33 ∷ 0x44 ∷ replicate 60 0)
+unfolding newReader complete badPad waits opens draws byte reads sound chunk chunks ended word writeAt goodHeader ran apply refuse resetCard rowAt rowIn table bit number result made byteAt from before drawn counted differing listed drawnAll changedAll spanned modeOf frameSpan spansOf effectiveBy badLength badSpace badLanes noRegister badMode badRaster offBoundary outside unloaded refusal count operation layers picture changed sourced afterFrame afterRegister next
+arrived = (refl, refl, refl, refl, refl)
 
 pub broken-off : after 7 ≡ nothing 10 (resetCard 0) (replicate 64 0)
 unfolding newReader complete badPad waits opens byte reads sound chunk chunks ended word goodHeader badLength

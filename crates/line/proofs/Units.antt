@@ -83,6 +83,7 @@ holding k ws s =
         announced = r .announced;
         applied = r .applied;
         pixels = r .pixels;
+        changed = r .changed;
         filled = k;
         waiting = ws;
       };

@@ -12,7 +12,8 @@ use Rattle.trace.specs.Run.{State, nothing, answer, apply, refuse}
 
 -- 10, and what was drawn stays
 abbrev pub breaks : State → State
-breaks s = record { number = 10; applied = s .applied; pixels = s .pixels; card = s .card; picture = s .picture }
+breaks s =
+    record { number = 10; applied = s .applied; pixels = s .pixels; changed = s .changed; card = s .card; picture = s .picture }
 
 -- an entry stands whole from byte a on, with zero pad bytes
 unfoldable pub entryThere : List ℕ → ℕ → Bool

@@ -20,7 +20,7 @@ empty = replicate headerSize 0
 
 -- a new reader: no byte has come
 unfoldable pub newReader : Reader
-newReader = record { number = 0; opened = 0; announced = 0; applied = 0; pixels = 0; filled = 0; waiting = empty }
+newReader = record { number = 0; opened = 0; announced = 0; applied = 0; pixels = 0; changed = 0; filled = 0; waiting = empty }
 
 -- where the reading stands: the reader, and the card and the picture as the last chunk left them
 pub record Standing : Type 0 where
@@ -31,13 +31,14 @@ pub record Standing : Type 0 where
 abbrev pub standing : Reader → Card → List ℕ → Standing
 standing r c v = record { reader = r; card = c; picture = v }
 
--- the same as the state of a run: the number, the entries applied, the total pixels, the card and the picture
+-- the same as the state of a run: the number, the entries applied, the total pixels, those changed, the card and the picture
 abbrev pub stateOf : Standing → State
 stateOf s =
     record {
       number = s .reader .number;
       applied = s .reader .applied;
       pixels = s .reader .pixels;
+      changed = s .reader .changed;
       card = s .card;
       picture = s .picture;
     }
@@ -63,6 +64,7 @@ stuck n r =
       announced = r .announced;
       applied = r .applied;
       pixels = r .pixels;
+      changed = r .changed;
       filled = r .filled;
       waiting = r .waiting;
     }
@@ -79,6 +81,7 @@ kept came r =
       announced = r .announced;
       applied = r .applied;
       pixels = r .pixels;
+      changed = r .changed;
       filled = r .filled + 1;
       waiting = came;
     }
@@ -88,7 +91,8 @@ waits came s = standing (kept came (s .reader)) (s .card) (s .picture)
 
 -- a header is whole: it announces so many entries, none applied yet
 abbrev pub headed : ℕ → Reader → Reader
-headed count r = record { number = r .number; opened = 1; announced = count; applied = 0; pixels = 0; filled = 0; waiting = empty }
+headed count r =
+    record { number = r .number; opened = 1; announced = count; applied = 0; pixels = 0; changed = 0; filled = 0; waiting = empty }
 
 unfoldable pub opens : ℕ → Standing → Standing
 opens count s = standing (headed count (s .reader)) (s .card) (s .picture)
@@ -102,6 +106,7 @@ counted t r =
       announced = r .announced;
       applied = t .applied;
       pixels = t .pixels;
+      changed = t .changed;
       filled = 0;
       waiting = empty;
     }
@@ -126,12 +131,13 @@ unfoldable pub reads : List ℕ → Standing → Standing
 reads [] s = s
 reads (b ∷ bs) s = reads bs (byte s b)
 
--- a reader that can be: fewer bytes wait than are awaited, and its totals are those of so many entries, of at most 2,048 pixels each.
+-- a reader that can be: fewer bytes wait than are awaited, and its totals are those of so many entries, of at most 2,048 pixels each, some of them changed.
 -- One put together by hand need not be such
 unfoldable pub sound : Reader → Bool
 sound r =
     ltb (r .filled) (awaited r)
-    && (leb (r .applied) (r .announced) && (leb (r .announced) largest && leb (r .pixels) (2048 * r .applied)))
+    && (leb (r .applied) (r .announced)
+    && (leb (r .announced) largest && (leb (r .pixels) (2048 * r .applied) && leb (r .changed) (r .pixels))))
 
 -- a chunk. A number that sticks comes before all; then 10 where the reader cannot be, and 1, before any byte is read
 unfoldable pub chunk : List ℕ → Standing → Standing

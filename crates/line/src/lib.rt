@@ -9,10 +9,11 @@ pub struct Reader {
     pub number: u32,
     // a mark: the header is read
     pub opened: u32,
-    // the entries that the header announces, those applied, and the total pixels
+    // the entries that the header announces, those applied, the total pixels, and those changed
     pub announced: u32,
     pub applied: u32,
     pub pixels: u32,
+    pub changed: u32,
     // how many bytes of an unfinished header or entry wait, and these in front
     pub filled: u32,
     pub waiting: [u8; 16],

@@ -1,7 +1,9 @@
 // The rule of one pixel, which is one byte here, for eight pixels at once: a word of 64 bits has eight.
 ghost use mathlib.Core.Path.{_≡_};
+ghost use mathlib.Core.Bool.{not};
 ghost use Prim.Native.Nat.{_-_, _^_};
 ghost use lib.Bits.{bitXor};
+ghost use lib.Dec.{eqb};
 ghost use Rattle.raster.specs.Pixel.{bit, number, made};
 
 // A raster operation reduced, as X servers call it, to one source word and one mask: an old word becomes (old & and) ^ xor.
@@ -35,10 +37,20 @@ pub fn reduce(op: u8, mask: u64, source: u64) -> Reduced
     }
 }
 
+// One pixel made, and whether it is another than the old one.
+pub struct Made {
+    pub byte: u8,
+    pub changed: bool,
+}
+
 // One pixel. Of the operation only bits 3:0 count, as in the raster-operation register.
-pub fn make(op: u8, mask: u8, source: u8, old: u8) -> u8
-    ensures { λ r. ⌜ r ≡ made 8 op mask source old ⌝ }
+pub fn make(op: u8, mask: u8, source: u8, old: u8) -> Made
+    ensures { λ r. ⌜ (r .byte ≡ made 8 op mask source old) × (r .changed ≡ not (eqb (made 8 op mask source old) old)) ⌝ }
 {
     let r = reduce(op, mask as u64, source as u64);
-    (((old as u64 & r.and) ^ r.xor) % 256) as u8
+    let byte = (((old as u64 & r.and) ^ r.xor) % 256) as u8;
+    Made {
+        byte,
+        changed: byte != old,
+    }
 }

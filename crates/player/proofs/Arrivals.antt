@@ -136,7 +136,7 @@ module _ (v : List ℕ) (held : ℕ) (p : List ℕ) (trace : isTrace v ≡ true)
   runs = one-whole-run v (resetCard held) (take n p) v [] (append-nil v) (2 ^ 32 - 1) trace few
 
   abbrev answered : State → Played
-  answered t = record { number = t .number; entries = t .applied; pixels = t .pixels; length = n }
+  answered t = record { number = t .number; entries = t .applied; pixels = t .pixels; changed = t .changed; length = n }
 
   accepted : eqb (checkNumber v) 0 ≡ true
   unfolding checkNumber

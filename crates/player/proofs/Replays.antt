@@ -13,7 +13,7 @@ use Rattle.player.specs.declared.Played.{Played}
 use Rattle.player.specs.Playing.{whole, played, pictured}
 
 abbrev answer : ℕ → Played
-answer n = record { number = n; entries = 0; pixels = 0; length = 0 }
+answer n = record { number = n; entries = 0; pixels = 0; changed = 0; length = 0 }
 
 module _ (bytes v : List ℕ) (held : ℕ) where
   -- the bytes are no trace
@@ -29,11 +29,11 @@ module _ (bytes v : List ℕ) (held : ℕ) where
 
     -- the trace is run, and what lies past its VRAM stays
     pub plays : (n : ℕ) → n ≡ checkLength bytes → checkLength bytes ≤ length v → (s : State) → s ≡ whole bytes held v
-        → (record { number = s .number; entries = s .applied; pixels = s .pixels; length = n } ≡ played bytes held v)
+        → (record { number = s .number; entries = s .applied; pixels = s .pixels; changed = s .changed; length = n } ≡ played bytes held v)
         × (s .picture ++ drop (n - 0) v ≡ pictured bytes held v)
     unfolding played pictured
     plays n f h s g = (
-      ap₂ (λ (r : State) (k : ℕ). record { number = r .number; entries = r .applied; pixels = r .pixels; length = k }) g f
+      ap₂ (λ (r : State) (k : ℕ). record { number = r .number; entries = r .applied; pixels = r .pixels; changed = r .changed; length = k }) g f
           ∙ simp (eq-eqb _ _ e, le-leb _ _ h),
       ap₂ (λ (r : State) (k : ℕ). r .picture ++ drop k v) g (sub-zero n ∙ f) ∙ simp (eq-eqb _ _ e, le-leb _ _ h),
     )

@@ -33,4 +33,4 @@ fedAll n (bs ∷ rest) s = fedAll n rest (fed n bs s)
 unfoldable pub closed : Reader → ℕ → Played
 closed r n =
     let e = ended r in
-    record { number = e .number; entries = e .applied; pixels = e .pixels; length = n }
+    record { number = e .number; entries = e .applied; pixels = e .pixels; changed = e .changed; length = n }

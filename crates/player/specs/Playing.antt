@@ -22,8 +22,8 @@ unfoldable pub played : List ℕ → ℕ → List ℕ → Played
 played bytes held v =
     cond (playable bytes v)
     (let s = whole bytes held v in
-    record { number = s .number; entries = s .applied; pixels = s .pixels; length = checkLength bytes })
-    (record { number = cond (eqb (checkNumber bytes) 0) 1 (checkNumber bytes); entries = 0; pixels = 0; length = 0 })
+    record { number = s .number; entries = s .applied; pixels = s .pixels; changed = s .changed; length = checkLength bytes })
+    (record { number = cond (eqb (checkNumber bytes) 0) 1 (checkNumber bytes); entries = 0; pixels = 0; changed = 0; length = 0 })
 
 -- and the VRAM after: every byte past the trace's own stays
 unfoldable pub pictured : List ℕ → ℕ → List ℕ → List ℕ

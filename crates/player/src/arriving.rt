@@ -39,6 +39,7 @@ pub fn close(reader: Reader, length: usize) -> Played
         number: r.number,
         entries: r.applied,
         pixels: r.pixels,
+        changed: r.changed,
         length,
     }
 }

@@ -15,6 +15,7 @@ pub struct Played {
     pub number: u32,
     pub entries: u32,
     pub pixels: u32,
+    pub changed: u32,
     pub length: usize,
 }
 
@@ -32,6 +33,7 @@ pub fn play(bytes: &[u8], held: u8, vram: &mut [u8]) -> Played
             number,
             entries: 0,
             pixels: 0,
+            changed: 0,
             length: 0,
         };
     }
@@ -40,6 +42,7 @@ pub fn play(bytes: &[u8], held: u8, vram: &mut [u8]) -> Played
             number: 1,
             entries: 0,
             pixels: 0,
+            changed: 0,
             length: 0,
         };
     }
@@ -48,6 +51,7 @@ pub fn play(bytes: &[u8], held: u8, vram: &mut [u8]) -> Played
         number: r.number,
         entries: r.applied,
         pixels: r.pixels,
+        changed: r.changed,
         length: n,
     }
 }

@@ -26,6 +26,7 @@ pub fn new() -> Reader
         announced: 0,
         applied: 0,
         pixels: 0,
+        changed: 0,
         filled: 0,
         waiting,
     }
@@ -79,7 +80,10 @@ pub fn sound(r: Reader) -> bool
     if (LARGEST as u32) < r.announced {
         return false;
     }
-    r.pixels <= WIDEST * r.applied
+    if WIDEST * r.applied < r.pixels {
+        return false;
+    }
+    r.changed <= r.pixels
 }
 
 // ---- What a whole header and the end call leave.
@@ -95,6 +99,7 @@ pub fn opening(r: Reader, came: [u8; 16]) -> Reader
         next.announced = word_at(&came, 0);
         next.applied = 0;
         next.pixels = 0;
+        next.changed = 0;
         next.filled = 0;
         next.waiting = empty;
         return next;

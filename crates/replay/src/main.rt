@@ -27,6 +27,7 @@ fn answer(p: Played) {
     line(b"entries ", p.entries as u64);
     line(b"pixels ", p.pixels as u64);
     line(b"vram ", p.length as u64);
+    line(b"changed ", p.changed as u64);
 }
 
 // Argument i as a number, or `other` where there is none.

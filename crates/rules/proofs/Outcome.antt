@@ -10,13 +10,13 @@ use lib.Dec.{T, leb}
 use lib.ListN.{length, getD}
 use borrow.Author.Tests.{eq-eqb, ne-eqb, leb-true, ltb-false}
 use Rattle.raster.proofs.Below.{left, right, is-true}
-use Rattle.span.specs.Layers.{drawnAll, summed}
+use Rattle.span.specs.Layers.{drawnAll, changedAll, summed}
 use Rattle.span.specs.Spans.{spanned, enabledIn}
 use Rattle.card.specs.declared.Card.{Card}
 use Rattle.card.specs.declared.Write.{Write}
 use Rattle.rules.specs.Modes.{effective, spansOf}
 use Rattle.rules.specs.Refusal.{badSpace, badRaster, rows, firstHolding, refusal}
-use Rattle.rules.specs.Writes.{count, layers, operation, picture, afterFrame, afterRegister, next}
+use Rattle.rules.specs.Writes.{count, layers, operation, picture, changed, afterFrame, afterRegister, next}
 use Rattle.rules.proofs.Tests.{neither}
 
 -- every row's number is k or above
@@ -96,6 +96,10 @@ module _ (c : Card) (w : Write) where
     unfolding picture layers
     picture-accepted = rw (eq-eqb _ _ e)
 
+    pub changed-accepted : changed c w v ≡ changedAll (operation c w) (map (spanned (effective c)) (spansOf c w)) v
+    unfolding changed layers
+    changed-accepted = rw (eq-eqb _ _ e)
+
     pub count-accepted : count c w (length v) ≡ summed enabledIn (spansOf c w)
     unfolding count
     count-accepted = simp (eq-eqb _ _ e)
@@ -112,6 +116,10 @@ module _ (c : Card) (w : Write) where
     pub picture-refused : picture c w v ≡ v
     unfolding picture layers drawnAll
     picture-refused = rw (ne-eqb _ _ e)
+
+    pub changed-refused : changed c w v ≡ 0
+    unfolding changed layers changedAll
+    changed-refused = rw (ne-eqb _ _ e)
 
     pub count-refused : count c w (length v) ≡ 0
     unfolding count

@@ -14,7 +14,7 @@ use Rattle.card.specs.declared.Write.{Write}
 use Rattle.card.specs.declared.Register.the-variants.{CopySource}
 use Rattle.rules.specs.Modes.{modeOf, isCopy, registerOf}
 use Rattle.rules.specs.Refusal.{refusal}
-use Rattle.rules.specs.Writes.{accepted, count, inBlockMode, next, picture}
+use Rattle.rules.specs.Writes.{accepted, count, inBlockMode, next, picture, changed}
 
 -- a list of writes, each handed the card and the picture that the one before left, refused ones included
 unfoldable pub cardAfter : List Write → Card → List ℕ → Card
@@ -25,10 +25,10 @@ unfoldable pub pictureAfter : List Write → Card → List ℕ → List ℕ
 pictureAfter [] c v = v
 pictureAfter (w ∷ ws) c v = pictureAfter ws (next c w v) (picture c w v)
 
--- the number and the count of each
-unfoldable pub answersOf : List Write → Card → List ℕ → List (ℕ × ℕ)
+-- the number, the count and the pixels changed of each
+unfoldable pub answersOf : List Write → Card → List ℕ → List (ℕ × ℕ × ℕ)
 answersOf [] c v = []
-answersOf (w ∷ ws) c v = (refusal c w (length v), count c w (length v)) ∷ answersOf ws (next c w v) (picture c w v)
+answersOf (w ∷ ws) c v = (refusal c w (length v), count c w (length v), changed c w v) ∷ answersOf ws (next c w v) (picture c w v)
 
 -- to draw with a: the given card with a in bits 3:0 of the raster-operation register and nothing else altered
 abbrev pub withOperation : ℕ → Card → Card

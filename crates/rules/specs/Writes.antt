@@ -1,4 +1,4 @@
--- What one write leaves: the count, the picture and the next card. A refused write has count 0 and leaves both.
+-- What one write leaves: the count, the picture, the number of pixels changed and the next card. A refused write counts none, changes none and leaves both.
 use mathlib.Core.Bool.{Bool, cond, not, _&&_}
 use mathlib.Core.List.{List, [], _++_, map}
 use Prim.Native.Nat.{ℕ, _+_, _-_, _^_}
@@ -7,7 +7,7 @@ use lib.Dec.{eqb}
 use lib.ListN.{length, getD, take, drop}
 use Rattle.raster.specs.Pixel.{bit}
 use Rattle.span.specs.Fragments.{Fragment, listed}
-use Rattle.span.specs.Layers.{drawnAll, summed}
+use Rattle.span.specs.Layers.{drawnAll, changedAll, summed}
 use Rattle.span.specs.Spans.{spanned, enabledIn}
 use Rattle.card.specs.Registers.{rowAt, isSet, _is_}
 use Rattle.card.specs.Access.{stores}
@@ -42,6 +42,10 @@ operation c w = cond (inBlockMode c w) 3 (c .registers .raster)
 -- the picture after
 unfoldable pub picture : Card → Write → List ℕ → List ℕ
 picture c w v = drawnAll (operation c w) (layers c w (length v)) v
+
+-- the number of pixels changed, those whose byte is another afterwards (change requests, Ask 4): each span is judged on the picture before it
+unfoldable pub changed : Card → Write → List ℕ → ℕ
+changed c w v = changedAll (operation c w) (layers c w (length v)) v
 
 -- a one-shot pixel mask is used up: all ones, and unmarked
 abbrev pub usedUp : Mask → Mask

@@ -21,15 +21,15 @@ module _ (r : Reader) (c : Card) (w : Write) (v : List ℕ) {a : Answer} {v′ :
   lands t = standing (counted t r) (t .card) (t .picture)
 
   pub drew-refused : (a .number ≡ 0 → ⊥)
-      → lands (record { number = a .number; applied = r .applied; pixels = r .pixels; card = c; picture = v′ }) ≡ draws w (standing r c v)
+      → lands (record { number = a .number; applied = r .applied; pixels = r .pixels; changed = r .changed; card = c; picture = v′ }) ≡ draws w (standing r c v)
   unfolding draws refuse
   drew-refused h =
       let refuses : answer before w ≡ 0 → ⊥ = λ e. h (done .number ∙ e) in
       cc (done .number, done .shows ∙ picture-refused c w v refuses) ∙ ap lands (sym (one-refused w before refuses))
 
   pub drew-applied : a .number ≡ 0
-      → lands (record { number = 0; applied = r .applied + 1; pixels = r .pixels + a .tally .enabled; card = a .card; picture = v′ })
+      → lands (record { number = 0; applied = r .applied + 1; pixels = r .pixels + a .tally .enabled; changed = r .changed + a .tally .changed; card = a .card; picture = v′ })
       ≡ draws w (standing r c v)
   unfolding draws apply
   drew-applied h =
-      cc (done .counts, done .leaves, done .shows) ∙ ap lands (sym (one-applied w before (sym (done .number) ∙ h)))
+      cc (done .counts, done .changes, done .leaves, done .shows) ∙ ap lands (sym (one-applied w before (sym (done .number) ∙ h)))

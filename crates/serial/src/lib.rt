@@ -75,6 +75,7 @@ fn draw(r: Reader, w: Write, card: Card, vram: &mut [u8]) -> Fed
             announced: r.announced,
             applied: r.applied,
             pixels: r.pixels,
+            changed: r.changed,
             filled: 0,
             waiting,
         };
@@ -86,6 +87,7 @@ fn draw(r: Reader, w: Write, card: Card, vram: &mut [u8]) -> Fed
         announced: r.announced,
         applied: r.applied + 1,
         pixels: r.pixels + answer.tally.enabled,
+        changed: r.changed + answer.tally.changed,
         filled: 0,
         waiting,
     };

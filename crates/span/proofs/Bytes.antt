@@ -4,7 +4,7 @@ use mathlib.Core.Bool.{Bool}
 use Prim.Native.Nat.{ℕ, zero, suc, _+_, _-_, _*_, _/_, _%_, _^_, _<_}
 use native.Mathlib.Nat.{div-one, pow-succ', zero-div, div-eq-of-lt, mul-mod-left}
 use native.Mathlib.Omega.{arith}
-use lib.Bits.{bitAnd, bitXor, and-shr, and-mod, xor-shr, xor-mod}
+use lib.Bits.{bitAnd, bitOr, bitXor, and-shr, and-mod, or-shr, or-mod, xor-shr, xor-mod}
 use lib.Pow.{pow-add, shr-shr, shl-shr}
 use Rattle.raster.specs.Pixel.{bit, number, made}
 use Rattle.raster.proofs.Bits.{bit-low, bit-high, bit-number, number-below, number-same, same-bits, bit-ones}
@@ -50,6 +50,12 @@ unfolding byte
 byte-xor a b k =
     rw (by-eight k)
     (ap (λ (n : ℕ). n % 2 ^ 8) (xor-shr a b (8 * k)) ∙ xor-mod (a / 2 ^ (8 * k)) (b / 2 ^ (8 * k)) 8)
+
+pub byte-or : (a b k : ℕ) → byte (bitOr a b) k ≡ bitOr (byte a k) (byte b k)
+unfolding byte
+byte-or a b k =
+    rw (by-eight k)
+    (ap (λ (n : ℕ). n % 2 ^ 8) (or-shr a b (8 * k)) ∙ or-mod (a / 2 ^ (8 * k)) (b / 2 ^ (8 * k)) 8)
 
 -- byte k of a word of n bytes that is made of f
 byte-number : (n : ℕ) (f : ℕ → Bool) (k : ℕ) → k < n → byte (number (8 * n) f) k ≡ number 8 (λ i. f (8 * k + i))

@@ -23,7 +23,7 @@ unfolding counted
 counted-none zero f e = refl
 counted-none (suc n) f e = ap₂ (λ (m : ℕ) (b : Bool). m + value b) (counted-none n f (λ j h. e j (omega arith))) (e n (omega arith))
 
-value-le : (b : Bool) → value b ≤ 1
+pub value-le : (b : Bool) → value b ≤ 1
 value-le true = omega arith
 value-le false = omega arith
 
@@ -48,3 +48,15 @@ counted-zero (suc n) f e j h = go (ℕ-discrete j n) (f n) refl (λ q l. counted
     go d true q below = absurd (omega (arith, ap value q))
     go (yes i) false q below = ap f i ∙ q
     go (no i) false q below = below (omega arith) (omega arith)
+
+-- what passes one test passes the other
+pub counted-within : (n : ℕ) (f g : ℕ → Bool) → ((j : ℕ) → j < n → value (f j) ≤ value (g j)) → counted n f ≤ counted n g
+unfolding counted
+counted-within zero f g e = omega arith
+counted-within (suc n) f g e = omega (arith, counted-within n f g (λ j h. e j (omega arith)), e n (omega arith))
+
+-- what passes a third test passes just one of two
+pub counted-sum : (n : ℕ) (f g h : ℕ → Bool) → ((j : ℕ) → j < n → value (f j) + value (g j) ≡ value (h j)) → counted n f + counted n g ≡ counted n h
+unfolding counted
+counted-sum zero f g h e = omega arith
+counted-sum (suc n) f g h e = omega (arith, counted-sum n f g h (λ j l. e j (omega arith)), e n (omega arith))

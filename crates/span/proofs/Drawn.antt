@@ -4,14 +4,14 @@ use mathlib.Core.Bool.{Bool, false}
 use mathlib.Core.List.{List, [], _∷_, _++_}
 use Prim.Native.Nat.{ℕ, zero, suc, _+_, _-_, _≤_, _<_, min}
 use native.Mathlib.Nat.{le-of-suc-le-suc, not-suc-le-zero}
-use native.Mathlib.Decide.{decLt, ℕ-discrete}
+use native.Mathlib.Decide.{decLt}
 use native.Mathlib.Omega.{arith}
-use lib.ListN.{length, getD, take, drop, set, length-append, length-drop, length-set, List·getD-append}
-use lib.Seq.{ext-getD, getD-take, getD-drop, getD-append-add, getD-set-same, getD-set-other, length-take-le}
+use lib.ListN.{length, getD, take, drop, length-append, length-drop, List·getD-append}
+use lib.Seq.{ext-getD, getD-take, getD-drop, getD-append-add, length-take-le}
 use Rattle.raster.specs.Pixel.{bit, result, composite}
 use Rattle.raster.proofs.Made.{made-outside}
 use Rattle.span.specs.Fragments.{Fragment, stays, paint, painted, drawn, before, from, Bytes}
-use Rattle.span.proofs.Painted.{before-below, before-same, from-below, from-past, painted-then, painted-five, painted-plane, painted-op}
+use Rattle.span.proofs.Painted.{before-same, from-below, from-past, painted-then, painted-five, painted-plane, painted-op, painted-below}
 
 pub drawn-length : (op : ℕ) (f : ℕ → Fragment) (v : List ℕ) → length (drawn op f v) ≡ length v
 unfolding drawn
@@ -60,23 +60,6 @@ drawn-from op a f v h =
         ∙ ap₂ (λ (x : Fragment) (old : ℕ). painted op x old) (sym (from-past a f (omega arith)))
         (getD-drop a v (i - a) 0 ∙ ap (λ (j : ℕ). getD v j 0) (omega arith))))
 
--- one turn of a loop that draws: byte i is stored
-pub drawn-before-step : (op i : ℕ) (f : ℕ → Fragment) (v : List ℕ) → i < length v
-    → set (drawn op (before i f) v) i (painted op (f i) (getD v i 0)) ≡ drawn op (before (i + 1) f) v
-drawn-before-step op i f v h =
-    drawn-is op (before (i + 1) f) v _ (simp (length-set, drawn-length)) (λ p l. each p l (ℕ-discrete p i))
-  where
-    each : (p : ℕ) → p < length v → Dec (p ≡ i)
-        → getD (set (drawn op (before i f) v) i (painted op (f i) (getD v i 0))) p 0 ≡ painted op (before (i + 1) f p) (getD v p 0)
-    each p l (yes e) =
-        rw e
-        (getD-set-same (drawn op (before i f) v) i (painted op (f i) (getD v i 0)) 0 (simp drawn-length h)
-        ∙ ap (λ (x : Fragment). painted op x (getD v i 0)) (sym (before-below (i + 1) f (omega arith))))
-    each p l (no n) =
-        getD-set-other (drawn op (before i f) v) i p (painted op (f i) (getD v i 0)) 0 n
-        ∙ (drawn-at op (before i f) v p l
-        ∙ ap (λ (x : Fragment). painted op x (getD v p 0)) (before-same i (i + 1) f p (λ b. omega arith) (λ b. omega arith)))
-
 -- what lies past the end does not count
 pub drawn-before-min : (op n : ℕ) (f : ℕ → Fragment) (v : List ℕ) → drawn op (before (min n (length v)) f) v ≡ drawn op (before n f) v
 drawn-before-min op n f v = drawn-same op v (λ p l. before-same (min n (length v)) n f p (λ b. omega arith) (λ b. omega arith))
@@ -119,3 +102,8 @@ drawn-plane op f v v′ i k l h hk e =
 pub drawn-op : (a b : ℕ) (f : ℕ → Fragment) (v : List ℕ) → ((s d : Bool) → result a s d ≡ result b s d) → drawn a f v ≡ drawn b f v
 drawn-op a b f v e =
     drawn-is b f v (drawn a f v) (drawn-length a f v) (λ i h. drawn-at a f v i h ∙ painted-op a b e (f i) (getD v i 0))
+
+-- a picture of bytes stays one
+pub drawn-bytes : (op : ℕ) (f : ℕ → Fragment) (v : List ℕ) → Bytes v → Bytes (drawn op f v)
+drawn-bytes op f v bytes i h =
+    let l : i < length v = omega (arith, drawn-length op f v) in rw (drawn-at op f v i l) (painted-below op (f i) (getD v i 0) (bytes i l))

@@ -12,7 +12,7 @@ use Rattle.raster.proofs.Composite.{result-composite, result-five}
 use Rattle.raster.proofs.Made.{made-bit, made-below}
 use Rattle.span.specs.Fragments.{Fragment, stays, paint, painted, drawn, Bytes}
 use Rattle.span.specs.Layers.{drawnAll, Each, Pairs, Apart}
-use Rattle.span.proofs.Drawn.{drawn-length, drawn-at, drawn-is, drawn-none, drawn-then, drawn-five, drawn-kept, drawn-op}
+use Rattle.span.proofs.Drawn.{drawn-length, drawn-at, drawn-is, drawn-none, drawn-then, drawn-five, drawn-kept, drawn-op, drawn-bytes}
 
 pub drawnAll-length : (op : ℕ) (fs : List (ℕ → Fragment)) (v : List ℕ) → length (drawnAll op fs v) ≡ length v
 unfolding drawnAll
@@ -137,11 +137,11 @@ commutes g h eg eh d =
 abbrev pub Restores : ℕ → Type 0
 Restores op = composite op op ≡ 5
 
+pub result-twice : (op : ℕ) → Restores op → (s d : Bool) → result op s (result op s d) ≡ d
+result-twice op e s d = sym (result-composite op op s d) ∙ (ap (λ (o : ℕ). result o s d) e ∙ result-five s d)
+
 result-swaps : (a b : ℕ) → Restores a → Restores b → (s t d : Bool) → result a s (result b t d) ≡ result b t (result a s d)
-result-swaps a b ea eb s t d =
-    let twice : (op : ℕ) → Restores op → (r c : Bool) → result op r (result op r c) ≡ c
-    = λ op e r c. sym (result-composite op op r c) ∙ (ap (λ (o : ℕ). result o r c) e ∙ result-five r c)
-    in commutes (result a s) (result b t) (twice a ea s) (twice b eb t) d
+result-swaps a b ea eb s t d = commutes (result a s) (result b t) (result-twice a ea s) (result-twice b eb t) d
 
 painted-swaps : (a b : ℕ) → Restores a → Restores b → (x y : Fragment) (old : ℕ) → painted a x (painted b y old) ≡ painted b y (painted a x old)
 painted-swaps a b ea eb stays y old = refl
@@ -180,3 +180,9 @@ unfolding drawnAll
 drawnAll-none op [] v e = refl
 drawnAll-none op (f ∷ fs) v (e, es) =
     ap (λ (u : List ℕ). drawnAll op fs u) (drawn-none op f v (λ p _. e p)) ∙ drawnAll-none op fs v es
+
+-- a picture of bytes stays one
+pub drawnAll-bytes : (op : ℕ) (fs : List (ℕ → Fragment)) (v : List ℕ) → Bytes v → Bytes (drawnAll op fs v)
+unfolding drawnAll
+drawnAll-bytes op [] v b = b
+drawnAll-bytes op (f ∷ fs) v b = drawnAll-bytes op fs (drawn op f v) (drawn-bytes op f v b)

@@ -1,4 +1,4 @@
--- One byte under one fragment, and the fragments `before` and `from`. `painted-five` assumes an old byte.
+-- One byte under one fragment, and the fragments `before` and `from`. `painted-five` and `painted-below` assume an old byte.
 use mathlib.Core.Path.{_≡_, refl, ap, sym, _∙_}
 use mathlib.Core.Bool.{Bool, cond}
 use Prim.Native.Nat.{ℕ, _-_, _≤_, _<_}
@@ -7,7 +7,7 @@ use native.Mathlib.Omega.{arith}
 use borrow.Author.Tests.{lt-ltb, le-ltb}
 use Rattle.raster.specs.Pixel.{bit, result, made, composite}
 use Rattle.raster.proofs.Bits.{number-same}
-use Rattle.raster.proofs.Made.{made-plane, made-then, made-five}
+use Rattle.raster.proofs.Made.{made-below, made-plane, made-then, made-five}
 use Rattle.span.specs.Fragments.{Fragment, stays, paint, painted, before, from}
 
 pub before-below : (n : ℕ) (f : ℕ → Fragment) {p : ℕ} → p < n → before n f p ≡ f p
@@ -56,3 +56,8 @@ unfolding made
 painted-op a b e stays old = refl
 painted-op a b e (paint mask source) old =
     number-same 8 (λ k _. ap (λ (r : Bool). cond (bit mask k) r (bit old k)) (e (bit source k) (bit old k)))
+
+-- a byte stays one
+pub painted-below : (op : ℕ) (x : Fragment) (old : ℕ) → old < 256 → painted op x old < 256
+painted-below op stays old h = h
+painted-below op (paint mask source) old h = made-below 8 op mask source old

@@ -1,19 +1,23 @@
 -- The laws of spans: what one does at each address, two side by side, one cut in two, and the strokes that draw it. Assumes nothing.
 use mathlib.Core.Path.{_≡_, refl, ap, ap₂, sym, _∙_}
 use mathlib.Core.Bool.{Bool, false, cond}
-use mathlib.Core.List.{List, _++_, append-nil}
+use mathlib.Core.List.{List, [], _∷_, _++_, append-nil}
+use mathlib.Core.Logic.{_⊎_, inl, inr}
 use Prim.Native.Nat.{ℕ, _+_, _-_, _%_, _<_, _≤_, min}
+use native.Mathlib.Nat.{add-zero}
 use native.Mathlib.Decide.{decLt}
 use native.Mathlib.Omega.{arith}
 use lib.ListN.{length, getD, take, drop, length-take, length-drop, drop-of-length-le}
 use lib.Seq.{take-all}
 use borrow.Rule.Slice.PartMut.{putMid}
 use Rattle.raster.specs.Pixel.{bit}
-use Rattle.span.specs.Fragments.{Fragment, stays, paint, painted, drawn, before, from, counted, byte}
+use Rattle.span.specs.Fragments.{Fragment, stays, paint, painted, drawn, before, from, counted, differing, byte}
+use Rattle.span.specs.Layers.{drawnAll, changedAll}
 use Rattle.span.specs.Spans.{Span, In, pixel, spanned, enabledIn, piece}
 use Rattle.span.specs.Strokes.{stroke, enabled, patternByte, Drew, Draws}
 use Rattle.span.specs.declared.Strokes.{Strokes}
 use Rattle.span.specs.declared.Tally.{Tally}
+use Rattle.span.proofs.Changed.{changedAll-apart}
 use Rattle.span.proofs.Counted.{counted-same, counted-append}
 use Rattle.span.proofs.Drawn.{drawn-same, drawn-is, drawn-at, drawn-length, drawn-from}
 use Rattle.span.proofs.Painted.{before-below, before-past, from-below, from-past}
@@ -119,6 +123,19 @@ module _ (s : Span) (k n : ℕ) (e : k + n ≡ s .width) where
   cut-counts =
       beside-counts (piece 0 k s) (piece k n s) s e (λ j h. let z : 0 + j ≡ j = omega arith in ap (s .on) z) (λ j h. refl)
 
+  -- and so are the pixels that they change
+  pub cut-changes : (op : ℕ) (mask : ℕ → ℕ) (v : List ℕ) → let u = drawn op (spanned mask (piece 0 k s)) v in
+      differing v u + differing u (drawn op (spanned mask (piece k n s)) u) ≡ differing v (drawn op (spanned mask (piece k n s)) u)
+  unfolding drawnAll changedAll
+  cut-changes op mask v =
+      let u = drawn op (spanned mask (piece 0 k s)) v in
+      ap (λ (m : ℕ). differing v u + m) (sym (add-zero (differing u (drawn op (spanned mask (piece k n s)) u))))
+      ∙ changedAll-apart op (spanned mask (piece 0 k s) ∷ spanned mask (piece k n s) ∷ []) v (((λ p. go p (decLt p (s .first + k))), tt), (tt, tt))
+    where
+      go : (p : ℕ) → Dec (p < s .first + k) → (spanned mask (piece 0 k s) p ≡ stays) ⊎ (spanned mask (piece k n s) p ≡ stays)
+      go p (yes h) = inr (spanned-before mask (piece k n s) p h)
+      go p (no h) = inl (spanned-past mask (piece 0 k s) p (omega arith))
+
 -- strokes whose word, bytes and masks are those of a span draw it
 pub draws : (s : Strokes) (op : ℕ) (mask : ℕ → ℕ) (p : Span) → s .op ≡ op → s .width ≡ p .width
     → ((j : ℕ) → byte (s .mask) (j % 8) ≡ mask (p .first + j))
@@ -164,10 +181,11 @@ module _ (s : Strokes) (op : ℕ) (mask : ℕ → ℕ) (p : Span) (d : Draws s o
 
 -- what the routine answers of strokes that draw a span inside the picture
 pub drew : (s : Strokes) (op : ℕ) (mask : ℕ → ℕ) (p : Span) → Draws s op mask p → (a : ℕ) (v : List ℕ) {r : Tally} {v′ : List ℕ} → Drew s a v r v′ → a ≡ p .first
-    → p .first + p .width ≤ length v → (v′ ≡ drawn op (spanned mask p) v) × (r .enabled ≡ enabledIn p)
+    → p .first + p .width ≤ length v → (v′ ≡ drawn op (spanned mask p) v) × (r .enabled ≡ enabledIn p) × (r .changed ≡ differing v v′)
 drew s op mask p d a v e at h = (
   e .shows ∙ (ap (λ (n : ℕ). drawn (s .op) (from n (before (s .width) (stroke s))) v) at ∙ draws-picture s op mask p d v),
   e .counts ∙ (ap (λ (n : ℕ). counted (min (s .width) (length v - n)) (enabled s)) at ∙ draws-count s op mask p d (length v) h),
+  e .changes,
 )
 
 -- a part from a on, drawn and put back, is the whole drawn from a on

@@ -3,12 +3,17 @@ use mathlib.Core.Path.{_≡_}
 use mathlib.Core.List.{List, [], _∷_}
 use mathlib.Core.Logic.{_⊎_}
 use Prim.Native.Nat.{ℕ, _+_}
-use Rattle.span.specs.Fragments.{Fragment, stays, drawn}
+use Rattle.span.specs.Fragments.{Fragment, stays, drawn, differing}
 
 -- the picture after the layers
 unfoldable pub drawnAll : ℕ → List (ℕ → Fragment) → List ℕ → List ℕ
 drawnAll op [] v = v
 drawnAll op (f ∷ fs) v = drawnAll op fs (drawn op f v)
+
+-- the number of pixels changed: each layer is judged on the picture before it, so that a pixel changed by two of them counts twice
+unfoldable pub changedAll : ℕ → List (ℕ → Fragment) → List ℕ → ℕ
+changedAll op [] v = 0
+changedAll op (f ∷ fs) v = differing v (drawn op f v) + changedAll op fs (drawn op f v)
 
 module _ {A : Type 0} where
   -- p holds of each member

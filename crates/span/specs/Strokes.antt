@@ -5,7 +5,7 @@ use mathlib.Core.List.{List}
 use Prim.Native.Nat.{ℕ, _-_, _/_, _%_, _<_, min}
 use lib.ListN.{length, getD}
 use Rattle.raster.specs.Pixel.{bit}
-use Rattle.span.specs.Fragments.{Fragment, stays, paint, drawn, before, from, counted, byte}
+use Rattle.span.specs.Fragments.{Fragment, stays, paint, drawn, before, from, counted, differing, byte}
 use Rattle.span.specs.Spans.{Span, pixel}
 use Rattle.span.specs.declared.Tally.{Tally}
 use Rattle.span.specs.declared.Strokes.{Strokes}
@@ -26,6 +26,7 @@ stroke s j = cond (enabled s j) (paint (byte (s .mask) (j % 8)) (patternByte (s 
 pub record Drew (s : Strokes) (a : ℕ) (v : List ℕ) (r : Tally) (v′ : List ℕ) : Type 0 where
   pub shows : v′ ≡ drawn (s .op) (from a (before (s .width) (stroke s))) v
   pub counts : r .enabled ≡ counted (min (s .width) (length v - a)) (enabled s)
+  pub changes : r .changed ≡ differing v v′
 
 -- the strokes s are the pixels of the span p under the masks and under operation op
 pub record Draws (s : Strokes) (op : ℕ) (mask : ℕ → ℕ) (p : Span) : Type 0 where

@@ -11,12 +11,16 @@ pub struct Strokes {
     pub width: u32,
 }
 
-// What drawing answers: the number of pixels enabled.
+// What drawing answers: the number of pixels enabled, and of those changed.
 pub struct Tally {
     pub enabled: u32,
+    pub changed: u32,
 }
 
 impl Tally {
     // Of nothing drawn.
-    pub const NONE: Tally = Tally { enabled: 0 };
+    pub const NONE: Tally = Tally {
+        enabled: 0,
+        changed: 0,
+    };
 }

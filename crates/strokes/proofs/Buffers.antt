@@ -10,8 +10,8 @@ use Rattle.raster.specs.Pixel.{bit}
 use Rattle.span.specs.Fragments.{byte, listed}
 use Rattle.span.proofs.Patterns.{Holds}
 use Rattle.span.proofs.Bytes.{bit-byte, byte-and, byte-shifted}
-use Rattle.strokes.specs.Words.{joined}
-use Rattle.strokes.proofs.Joined.{byte-joined}
+use Rattle.words.specs.Words.{joined}
+use Rattle.words.proofs.Joined.{byte-joined}
 
 -- a byte under all ones or under none
 kept : (n : ℕ) (b : Bool) → n < 256 → bitAnd n (cond b 255 0) ≡ cond b n 0

@@ -1,2 +1,2 @@
 -- Words in the span routine's contracts.
-pub mod Words
+pub mod Progress

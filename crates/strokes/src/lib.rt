@@ -9,9 +9,11 @@ ghost use lib.Dec.{leb};
 ghost use lib.ListN.{length, getD};
 ghost use lib.Seq.{sets};
 ghost use Rattle.raster.specs.Pixel.{bit};
-ghost use Rattle.span.specs.Fragments.{Fragment, drawn, before, from, counted, byte, listed};
+ghost use Rattle.span.specs.Fragments.{Fragment, drawn, before, from, counted, differs, differing, byte, listed};
 ghost use Rattle.span.specs.Strokes.{stroke, enabled, Drew};
+ghost use Rattle.words.specs.Words.{Marks};
 ghost use Rattle.tables.specs.Reduced.{keeps, flips, Makes};
+ghost use Rattle.strokes.specs.Progress.{altered, Further};
 use span::Strokes;
 use span::Tally;
 use tables::Table;
@@ -21,81 +23,96 @@ mod memory;
 
 // ---- Pixels drawn.
 
-// Eight pixels from `at` on: one load and one store.
-fn word(part: &mut [u8], at: usize, and: u64, xor: u64)
+// Eight pixels from `at` on: one load and one store. A byte of the answer is one where the pixel changed, else 0.
+fn word(part: &mut [u8], at: usize, and: u64, xor: u64) -> u64
     requires { ⌜ at + 8 ≤ length (now part) ⌝ }
-    ensures { λ _. ⌜ now (part .exit) ≡ sets (now (part .entry)) at (listed 8 (λ k.
-        bitXor (bitAnd (getD (now (part .entry)) (at + k) 0) (byte and k)) (byte xor k))) ⌝ }
+    ensures { λ r. ⌜ (now (part .exit) ≡ sets (now (part .entry)) at (listed 8 (λ k.
+        bitXor (bitAnd (getD (now (part .entry)) (at + k) 0) (byte and k)) (byte xor k))))
+        × Marks (λ k. differs (now (part .entry)) (now (part .exit)) (at + k)) r ⌝ }
 {
     let old = memory::load(part, at);
-    memory::store(part, at, (old & and) ^ xor);
+    let new = (old & and) ^ xor;
+    memory::store(part, at, new);
+    words::differing(old, new)
 }
 
 // The whole pattern from `at` on, which is a multiple of 32. The compiler draws sixteen pixels at once where the processor can.
-fn pattern(part: &mut [u8], at: usize, t: Table)
+// This and what follows answer how many pixels changed.
+fn pattern(part: &mut [u8], at: usize, t: Table) -> u32
     requires { ⌜ (at + 32 ≤ length (now part)) × (at % 32 ≡ 0) ⌝ }
-    ensures { λ _. ⌜ ((op : ℕ) (f : ℕ → Fragment) → Makes t op f → (v : List ℕ)
-        → now (part .entry) ≡ drawn op (before at f) v → now (part .exit) ≡ drawn op (before (at + 32) f) v) ⌝ }
+    ensures { λ r. ⌜ (r ≤ 32) × ((op : ℕ) (f : ℕ → Fragment) → Makes t op f
+        → Further op f at (at + 32) (now (part .entry)) r (now (part .exit))) ⌝ }
 {
-    word(part, at, t.and[0], t.xor[0]);
-    word(part, at + 8, t.and[1], t.xor[1]);
-    word(part, at + 16, t.and[2], t.xor[2]);
-    word(part, at + 24, t.and[3], t.xor[3]);
+    let a = word(part, at, t.and[0], t.xor[0]);
+    let b = word(part, at + 8, t.and[1], t.xor[1]);
+    let c = word(part, at + 16, t.and[2], t.xor[2]);
+    let d = word(part, at + 24, t.and[3], t.xor[3]);
+    words::total(a + b + c + d)
 }
 
 // The pattern n times.
-fn by_patterns(part: &mut [u8], n: usize, t: Table)
-    requires { ⌜ 32 * n ≤ length (now part) ⌝ }
-    ensures { λ _. ⌜ ((op : ℕ) (f : ℕ → Fragment) → Makes t op f
-        → now (part .exit) ≡ drawn op (before (32 * n) f) (now (part .entry))) ⌝ }
+fn by_patterns(part: &mut [u8], n: usize, t: Table) -> u32
+    requires { ⌜ (32 * n ≤ length (now part)) × (32 * n < 2 ^ 32) ⌝ }
+    ensures { λ r. ⌜ (r ≤ 32 * n) × ((op : ℕ) (f : ℕ → Fragment) → Makes t op f
+        → Further op f 0 (32 * n) (now (part .entry)) r (now (part .exit))) ⌝ }
 {
+    let mut changed: u32 = 0;
     let mut i = 0;
     while i < n {
-        pattern(part, 32 * i, t);
+        changed += pattern(part, 32 * i, t);
         i += 1;
     }
+    changed
 }
 
 // Words `start` to n - 1.
-fn by_words(part: &mut [u8], start: usize, n: usize, t: Table)
-    requires { ⌜ (start ≤ n) × (8 * n ≤ length (now part)) ⌝ }
-    ensures { λ _. ⌜ ((op : ℕ) (f : ℕ → Fragment) → Makes t op f → (v : List ℕ)
-        → now (part .entry) ≡ drawn op (before (8 * start) f) v → now (part .exit) ≡ drawn op (before (8 * n) f) v) ⌝ }
+fn by_words(part: &mut [u8], start: usize, n: usize, t: Table) -> u32
+    requires { ⌜ (start ≤ n) × (8 * n ≤ length (now part)) × (8 * n < 2 ^ 32) ⌝ }
+    ensures { λ r. ⌜ (r + 8 * start ≤ 8 * n) × ((op : ℕ) (f : ℕ → Fragment) → Makes t op f
+        → Further op f (8 * start) (8 * n) (now (part .entry)) r (now (part .exit))) ⌝ }
 {
+    let mut changed: u32 = 0;
     let mut g = start;
     while g < n {
-        word(part, 8 * g, t.and[g % 4], t.xor[g % 4]);
+        changed += words::total(word(part, 8 * g, t.and[g % 4], t.xor[g % 4]));
         g += 1;
     }
+    changed
 }
 
 // The pixels of the last word, fewer than eight.
-fn by_bytes(part: &mut [u8], start: usize, end: usize, and: u64, xor: u64)
-    requires { ⌜ (start ≤ end) × (end ≤ length (now part)) ⌝ }
-    ensures { λ _. ⌜ ((op : ℕ) (f : ℕ → Fragment)
+fn by_bytes(part: &mut [u8], start: usize, end: usize, and: u64, xor: u64) -> u32
+    requires { ⌜ (start ≤ end) × (end ≤ length (now part)) × (end < 2 ^ 32) ⌝ }
+    ensures { λ r. ⌜ (r + start ≤ end) × ((op : ℕ) (f : ℕ → Fragment)
         → ((j : ℕ) → start ≤ j → j < end → (byte and (j % 8) ≡ keeps op (f j)) × (byte xor (j % 8) ≡ flips op (f j)))
-        → (v : List ℕ) → now (part .entry) ≡ drawn op (before start f) v → now (part .exit) ≡ drawn op (before end f) v) ⌝ }
+        → Further op f start end (now (part .entry)) r (now (part .exit))) ⌝ }
 {
+    let mut changed: u32 = 0;
     let mut j = start;
     while j < end {
         let k = 8 * (j % 8);
-        part[j] = (part[j] & ((and >> k) % 0x100) as u8) ^ ((xor >> k) % 0x100) as u8;
+        let old = part[j];
+        let new = (old & ((and >> k) % 0x100) as u8) ^ ((xor >> k) % 0x100) as u8;
+        part[j] = new;
+        changed += words::differ(old, new);
         j += 1;
     }
+    changed
 }
 
 // The pixels after the last whole pattern. Where there are none, the table need not stand in memory.
-fn last(part: &mut [u8], end: usize, t: Table)
-    requires { ⌜ end ≤ length (now part) ⌝ }
-    ensures { λ _. ⌜ ((op : ℕ) (f : ℕ → Fragment) → Makes t op f → (v : List ℕ)
-        → now (part .entry) ≡ drawn op (before (32 * (end / 32)) f) v → now (part .exit) ≡ drawn op (before end f) v) ⌝ }
+fn last(part: &mut [u8], end: usize, t: Table) -> u32
+    requires { ⌜ (end ≤ length (now part)) × (end < 2 ^ 32) ⌝ }
+    ensures { λ r. ⌜ (r + 32 * (end / 32) ≤ end) × ((op : ℕ) (f : ℕ → Fragment) → Makes t op f
+        → Further op f (32 * (end / 32)) end (now (part .entry)) r (now (part .exit))) ⌝ }
 {
     if end % 32 == 0 {
-        return;
+        return 0;
     }
     let n = end / 8;
-    by_words(part, 4 * (end / 32), n, t);
-    by_bytes(part, 8 * n, end, t.and[n % 4], t.xor[n % 4]);
+    let whole = by_words(part, 4 * (end / 32), n, t);
+    let rest = by_bytes(part, 8 * n, end, t.and[n % 4], t.xor[n % 4]);
+    whole + rest
 }
 
 // ---- Pixels counted.
@@ -124,17 +141,19 @@ fn shorter(width: u32, length: usize) -> usize
     if width < length { width } else { length }
 }
 
-// Draws the span at the start of the part, or as much of it as the part holds, and counts the pixels enabled there.
+// Draws the span at the start of the part, or as much of it as the part holds, and counts the pixels enabled and those changed there.
 fn draw(part: &mut [u8], s: Strokes) -> Tally
     ensures { λ r. ⌜ (now (part .exit) ≡ drawn (s .op) (before (s .width) (stroke s)) (now (part .entry)))
-        × (r .enabled ≡ counted (min (s .width) (length (now (part .entry)))) (enabled s)) ⌝ }
+        × (r .enabled ≡ counted (min (s .width) (length (now (part .entry)))) (enabled s))
+        × (r .changed ≡ altered (s .op) (stroke s) (now (part .entry)) (min (s .width) (length (now (part .entry))))) ⌝ }
 {
     let t = tables::digest(s);
     let end = shorter(s.width, part.len());
-    by_patterns(part, end / 32, t);
-    last(part, end, t);
+    let whole = by_patterns(part, end / 32, t);
+    let rest = last(part, end, t);
+    let changed = whole + rest;
     let enabled = count(s.enable, end);
-    Tally { enabled }
+    Tally { enabled, changed }
 }
 
 // The same in the part of VRAM that starts at the span's first pixel; nothing where that lies past the end.
@@ -150,15 +169,16 @@ pub fn draw_at(vram: &mut [u8], first: usize, s: Strokes) -> Tally
 // ---- Text.
 
 // The shorter way of 32 pixels under operation 3, whatever operation and width the strokes have: a table with nothing to choose, the pattern once, no loop.
-// Nothing where they do not all lie inside.
-pub fn text_at(vram: &mut [u8], address: u32, s: Strokes)
-    ensures { λ _. ⌜ now (vram .exit) ≡ cond (leb (address + 32) (length (now (vram .entry))))
-        (drawn 3 (from address (before 32 (stroke s))) (now (vram .entry))) (now (vram .entry)) ⌝ }
+// Nothing where they do not all lie inside. It answers how many changed.
+pub fn text_at(vram: &mut [u8], address: u32, s: Strokes) -> u32
+    ensures { λ r. ⌜ (now (vram .exit) ≡ cond (leb (address + 32) (length (now (vram .entry))))
+        (drawn 3 (from address (before 32 (stroke s))) (now (vram .entry))) (now (vram .entry)))
+        × (r ≡ differing (now (vram .entry)) (now (vram .exit))) ⌝ }
 {
     let first = address as usize;
     if vram.len() < first + 32 {
-        return;
+        return 0;
     }
     let t = tables::copied(s);
-    pattern(&mut vram[first..], 0, t);
+    pattern(&mut vram[first..], 0, t)
 }

@@ -5,7 +5,7 @@ ghost use Prim.Native.Nat.{_+_, _≤_};
 ghost use lib.ListN.{length, getD};
 ghost use lib.Seq.{sets};
 ghost use Rattle.span.specs.Fragments.{byte, listed};
-ghost use Rattle.strokes.specs.Words.{joined};
+ghost use Rattle.words.specs.Words.{joined};
 
 // Eight bytes as one word, the first its lowest.
 fn join(a: u8, b: u8, c: u8, d: u8, e: u8, f: u8, g: u8, h: u8) -> u64

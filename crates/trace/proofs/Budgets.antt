@@ -11,7 +11,7 @@ use borrow.Author.Tests.{eq-eqb, eqb-true}
 use Rattle.card.specs.declared.Card.{Card}
 use Rattle.card.specs.declared.Write.{Write}
 use Rattle.rules.specs.Refusal.{badLength}
-use Rattle.rules.specs.Writes.{count}
+use Rattle.rules.specs.Writes.{count, changed}
 use Rattle.format.specs.Traces.{entryCount, writes, wellFormed}
 use Rattle.format.proofs.Tested.{formed}
 use Rattle.format.proofs.Encoding.{length-writes}
@@ -23,50 +23,59 @@ use Rattle.trace.proofs.Runs.{Runs, ends, spent, refused, applied, runs
 abbrev fresh : State → State
 fresh s = nothing 0 (s .card) (s .picture)
 
--- with so many entries and pixels counted before
-abbrev more : ℕ → ℕ → State → State
-more x y s = record { number = s .number; applied = x + s .applied; pixels = y + s .pixels; card = s .card; picture = s .picture }
+-- with so many entries, pixels and changes counted before
+abbrev more : ℕ → ℕ → ℕ → State → State
+more x y z s =
+    record { number = s .number; applied = x + s .applied; pixels = y + s .pixels; changed = z + s .changed; card = s .card; picture = s .picture }
 
--- what two runs give, one going on where the other stopped: the first number that is not 0, both counts, the last card and picture
+-- what two runs give, one going on where the other stopped: the first number that is not 0, the counts of both, the last card and picture
 abbrev pub follows : State → State → State
 follows s r =
     record {
       number = cond (eqb (s .number) 0) (r .number) (s .number);
       applied = s .applied + r .applied;
       pixels = s .pixels + r .pixels;
+      changed = s .changed + r .changed;
       card = r .card;
       picture = r .picture;
     }
 
 -- states are one where their numbers are
-same : (c : Card) (v : List ℕ) {n n′ a a′ p p′ : ℕ} → n ≡ n′ → a ≡ a′ → p ≡ p′
-    → _≡_ {A = State} (record { number = n; applied = a; pixels = p; card = c; picture = v }) (record { number = n′; applied = a′; pixels = p′; card = c; picture = v })
-same c v e f g = cc
+same : (c : Card) (v : List ℕ) {n n′ a a′ p p′ q q′ : ℕ} → n ≡ n′ → a ≡ a′ → p ≡ p′ → q ≡ q′
+    → _≡_ {A = State} (record { number = n; applied = a; pixels = p; changed = q; card = c; picture = v }) (record { number = n′; applied = a′; pixels = p′; changed = q′; card = c; picture = v })
+same c v e f g h = cc
 
 -- counts made before go along unchanged
-along : (x y : ℕ) (ws : List Write) (b : ℕ) (s : State) → ran ws b (more x y s) ≡ more x y (ran ws b s)
+along : (x y z : ℕ) (ws : List Write) (b : ℕ) (s : State) → ran ws b (more x y z s) ≡ more x y z (ran ws b s)
 unfolding ran apply refuse
-along x y [] b s = refl
-along x y (w ∷ ws) zero s = refl
-along x y (w ∷ ws) (suc b) s =
-    let e : apply (more x y s) w ≡ more x y (apply s w) = cc (add-assoc x (s .applied) 1, add-assoc y (s .pixels) (count (s .card) w (length (s .picture)))) in
-    ap (λ (r : State). cond (eqb (answer s w) 0) r (refuse (more x y s) w)) (ap (ran ws b) e ∙ along x y ws b (apply s w))
+along x y z [] b s = refl
+along x y z (w ∷ ws) zero s = refl
+along x y z (w ∷ ws) (suc b) s =
+    let e : apply (more x y z s) w ≡ more x y z (apply s w)
+    = cc (
+      add-assoc x (s .applied) 1,
+      add-assoc y (s .pixels) (count (s .card) w (length (s .picture))),
+      add-assoc z (s .changed) (changed (s .card) w (s .picture)),
+    )
+    in
+    ap (λ (r : State). cond (eqb (answer s w) 0) r (refuse (more x y z s) w)) (ap (ran ws b) e ∙ along x y z ws b (apply s w))
     ∙ out (eqb (answer s w) 0) (ran ws b (apply s w)) (refuse s w)
   where
-    out : (t : Bool) (p q : State) → cond t (more x y p) (more x y q) ≡ more x y (cond t p q)
+    out : (t : Bool) (p q : State) → cond t (more x y z p) (more x y z q) ≡ more x y z (cond t p q)
     out true p q = refl
     out false p q = refl
 
 -- so a run from some state is what follows on it
 joined : (ws : List Write) (b : ℕ) (s : State) → s .number ≡ 0 → ran ws b s ≡ follows s (ran ws b (fresh s))
 joined ws b s z =
-    let e : s ≡ more (s .applied) (s .pixels) (fresh s) = same (s .card) (s .picture) z (sym (add-zero (s .applied))) (sym (add-zero (s .pixels))) in
-    ap (ran ws b) e ∙ along (s .applied) (s .pixels) ws b (fresh s) ∙ rw (eq-eqb _ _ z)
+    let e : s ≡ more (s .applied) (s .pixels) (s .changed) (fresh s)
+    = same (s .card) (s .picture) z (sym (add-zero (s .applied))) (sym (add-zero (s .pixels))) (sym (add-zero (s .changed)))
+    in ap (ran ws b) e ∙ along (s .applied) (s .pixels) (s .changed) ws b (fresh s) ∙ rw (eq-eqb _ _ z)
 
 -- nothing more
 idle : (s : State) (n : ℕ) → (s .number ≡ 0 → n ≡ 0) → s ≡ follows s (nothing n (s .card) (s .picture))
 idle s n h =
-    same (s .card) (s .picture) (sym (go (eqb (s .number) 0) refl)) (sym (add-zero (s .applied))) (sym (add-zero (s .pixels)))
+    same (s .card) (s .picture) (sym (go (eqb (s .number) 0) refl)) (sym (add-zero (s .applied))) (sym (add-zero (s .pixels))) (sym (add-zero (s .changed)))
   where
     go : (t : Bool) → eqb (s .number) 0 ≡ t → cond t n (s .number) ≡ s .number
     go true e = h (eqb-true _ _ e) ∙ sym (eqb-true _ _ e)

@@ -15,6 +15,7 @@ use Rattle.card.specs.Reset.{resetCard}
 use Rattle.rules.specs.Refusal.{badLength, refusal}
 use Rattle.rules.specs.Writes.{picture}
 use Rattle.rules.specs.Sequences.{cardAfter, pictureAfter}
+use Rattle.demands.proofs.Changed.{within}
 use Rattle.demands.proofs.Counting.{count-bound}
 use Rattle.demands.proofs.Demand1.{answered}
 use Rattle.demands.proofs.Demand2.{held-through, held-chosen}
@@ -47,6 +48,14 @@ pixels-bound ends = omega arith
 pixels-bound spent = omega arith
 pixels-bound (refused n) = omega arith
 pixels-bound (applied {w = w} {s = s} e p) = omega (arith, pixels-bound p, count-bound (s .card) w (length (s .picture)))
+
+-- and changes no more than it draws
+changed-bound : {ws : List Write} {b k : ℕ} {s r : State} → s .changed ≤ s .pixels → Runs ws b s k r → r .changed ≤ r .pixels
+unfolding apply refuse
+changed-bound h ends = h
+changed-bound h spent = h
+changed-bound h (refused n) = h
+changed-bound h (applied {w = w} {s = s} e p) = changed-bound (omega (arith, within (s .card) w (s .picture))) p
 
 -- a number from the engine
 runs-number : {ws : List Write} {b k : ℕ} {s r : State} → s .number ≡ 0 → Runs ws b s k r → r .number ≤ 9
@@ -84,6 +93,7 @@ pub record Outcome (part : List ℕ) (b : ℕ) (c : Card) (v : List ℕ) (s : St
   pub within-largest : s .applied ≤ largest
   -- the total never exceeds 8,388,608
   pub total : s .pixels ≤ 8388608
+  pub changes : s .changed ≤ s .pixels
   -- demand 1: picture and card are those of the entries applied
   pub shows : s .picture ≡ pictureAfter (take (s .applied) (writes part)) c v
   pub leaves : s .card ≡ cardAfter (take (s .applied) (writes part)) c v
@@ -97,6 +107,7 @@ nothing-drawn part b c v n h =
       within-part = omega arith;
       within-largest = omega arith;
       total = omega arith;
+      changes = omega arith;
       shows = refl;
       leaves = refl;
     }
@@ -134,6 +145,7 @@ module _ (part : List ℕ) (b : ℕ) (c : Card) (v : List ℕ) where
         within-part = omega (arith, f .whole);
         within-largest = omega (arith, f .few);
         total = omega (arith, f .few, pixels-bound p);
+        changes = changed-bound (omega arith) p;
         shows = runs-shows p ∙ ap (λ (n : ℕ). pictureAfter (take n ws) c v) (sym k);
         leaves = runs-leaves p ∙ ap (λ (n : ℕ). cardAfter (take n ws) c v) (sym k);
       }

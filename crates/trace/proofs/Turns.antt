@@ -10,6 +10,7 @@ use Rattle.card.specs.declared.Write.{Write}
 use Rattle.engine.specs.declared.Answer.{Answer}
 use Rattle.rules.specs.Refusal.{badLength}
 use Rattle.engine.specs.Contract.{Written}
+use Rattle.demands.proofs.Changed.{within}
 use Rattle.demands.proofs.Counting.{count-bound}
 use Rattle.demands.proofs.Demand1.{same-length}
 use Rattle.rules.proofs.Outcome.{picture-refused}
@@ -19,8 +20,8 @@ use Rattle.trace.specs.Run.{State, answer, apply, refuse, ran, run}
 use Rattle.trace.proofs.Runs.{ran-refused, ran-applied, run-good}
 
 -- accepted so far
-abbrev pub standing : ℕ → ℕ → Card → List ℕ → State
-standing applied pixels c v = record { number = 0; applied = applied; pixels = pixels; card = c; picture = v }
+abbrev pub standing : ℕ → ℕ → ℕ → Card → List ℕ → State
+standing applied pixels changed c v = record { number = 0; applied = applied; pixels = pixels; changed = changed; card = c; picture = v }
 
 -- what is left of n entries and of the budget, from entry i on
 abbrev pub remaining : List ℕ → ℕ → ℕ → ℕ → State → State
@@ -28,7 +29,7 @@ remaining part n budget i s = ran (writesAt part (12 * i) (n - i)) (budget - i) 
 
 -- before the first entry
 pub all-left : (part : List ℕ) (budget : ℕ) (c : Card) (v : List ℕ) → wellFormed part ≡ true → badLength (length v) ≡ false
-    → remaining part (entryCount part) budget 0 (standing 0 0 c v) ≡ run part budget c v
+    → remaining part (entryCount part) budget 0 (standing 0 0 0 c v) ≡ run part budget c v
 unfolding writes
 all-left part budget c v d e =
     let all : entryCount part - 0 ≡ entryCount part = omega arith in
@@ -59,9 +60,12 @@ module _ (c : Card) (v : List ℕ) {w : Write} {r : Answer} {v′ : List ℕ} (d
   pub turn-pixels : (i pixels : ℕ) → pixels ≤ 2048 * i → pixels + r .tally .enabled ≤ 2048 * (i + 1)
   turn-pixels i pixels h = omega (arith, done .counts, count-bound c w (length v))
 
-module _ (part : List ℕ) (n budget i pixels : ℕ) (c : Card) (v : List ℕ) (more : i < n) (left : i < budget)
+  pub turn-changed : (pixels changed : ℕ) → changed ≤ pixels → changed + r .tally .changed ≤ pixels + r .tally .enabled
+  turn-changed pixels changed h = omega (arith, done .counts, done .changes, within c w v)
+
+module _ (part : List ℕ) (n budget i pixels changed : ℕ) (c : Card) (v : List ℕ) (more : i < n) (left : i < budget)
     {w : Write} {r : Answer} {v′ : List ℕ} (reads : w ≡ writeAt part (12 * i)) (done : Written c w v r v′) where
-  begins : remaining part n budget i (standing i pixels c v) ≡ ran (w ∷ writesAt part (12 * i + 12) (n - (i + 1))) (suc (budget - (i + 1))) (standing i pixels c v)
+  begins : remaining part n budget i (standing i pixels changed c v) ≡ ran (w ∷ writesAt part (12 * i + 12) (n - (i + 1))) (suc (budget - (i + 1))) (standing i pixels changed c v)
   unfolding writesAt
   begins =
       let e : n - i ≡ suc (n - (i + 1)) = omega arith in
@@ -69,17 +73,17 @@ module _ (part : List ℕ) (n budget i pixels : ℕ) (c : Card) (v : List ℕ) (
       rw (e, f, reads)
 
   pub turn-refused : (r .number ≡ 0 → ⊥)
-      → record { number = r .number; applied = i; pixels = pixels; card = c; picture = v′ } ≡ remaining part n budget i (standing i pixels c v)
+      → record { number = r .number; applied = i; pixels = pixels; changed = changed; card = c; picture = v′ } ≡ remaining part n budget i (standing i pixels changed c v)
   unfolding refuse
   turn-refused h =
-      let refuses : answer (standing i pixels c v) w ≡ 0 → ⊥ = λ e. h (done .number ∙ e) in
+      let refuses : answer (standing i pixels changed c v) w ≡ 0 → ⊥ = λ e. h (done .number ∙ e) in
       cc (done .number, done .shows ∙ picture-refused c w v refuses)
-      ∙ sym (begins ∙ ran-refused w _ _ (standing i pixels c v) refuses)
+      ∙ sym (begins ∙ ran-refused w _ _ (standing i pixels changed c v) refuses)
 
   pub turn-applied : r .number ≡ 0
-      → remaining part n budget (i + 1) (standing (i + 1) (pixels + r .tally .enabled) (r .card) v′) ≡ remaining part n budget i (standing i pixels c v)
+      → remaining part n budget (i + 1) (standing (i + 1) (pixels + r .tally .enabled) (changed + r .tally .changed) (r .card) v′) ≡ remaining part n budget i (standing i pixels changed c v)
   unfolding apply
   turn-applied h =
       let next : 12 * (i + 1) ≡ 12 * i + 12 = omega arith in
-      cc (next, done .counts, done .leaves, done .shows)
-      ∙ sym (begins ∙ ran-applied w _ _ (standing i pixels c v) (sym (done .number) ∙ h))
+      cc (next, done .counts, done .changes, done .leaves, done .shows)
+      ∙ sym (begins ∙ ran-applied w _ _ (standing i pixels changed c v) (sym (done .number) ∙ h))

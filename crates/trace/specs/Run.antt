@@ -7,44 +7,48 @@ use lib.ListN.{length, drop}
 use Rattle.card.specs.declared.Card.{Card}
 use Rattle.card.specs.declared.Write.{Write}
 use Rattle.rules.specs.Refusal.{badLength, refusal}
-use Rattle.rules.specs.Writes.{count, next, picture}
+use Rattle.rules.specs.Writes.{count, next, picture, changed}
 use Rattle.format.specs.Traces.{entrySize, writes, wellFormed}
 use Rattle.trace.specs.declared.Ran.{Ran}
 
--- where a run stands: the number, the entries applied, the total pixels, the card and the picture
+-- where a run stands: the number, the entries applied, the total pixels, those changed, the card and the picture
 pub record State : Type 0 where
   pub number : ℕ
   pub applied : ℕ
   pub pixels : ℕ
+  pub changed : ℕ
   pub card : Card
   pub picture : List ℕ
 
 -- what a run answers, with the picture that it leaves
 abbrev pub outcomeOf : Ran → List ℕ → State
-outcomeOf r v = record { number = r .number; applied = r .applied; pixels = r .pixels; card = r .card; picture = v }
+outcomeOf r v =
+    record { number = r .number; applied = r .applied; pixels = r .pixels; changed = r .changed; card = r .card; picture = v }
 
 -- nothing drawn, with this number
 abbrev pub nothing : ℕ → Card → List ℕ → State
-nothing n c v = record { number = n; applied = 0; pixels = 0; card = c; picture = v }
+nothing n c v = record { number = n; applied = 0; pixels = 0; changed = 0; card = c; picture = v }
 
 -- the number that a write gets here
 abbrev pub answer : State → Write → ℕ
 answer s w = refusal (s .card) w (length (s .picture))
 
--- an accepted write is applied
+-- an accepted write is applied. A pixel that several writes change is counted at each
 unfoldable pub apply : State → Write → State
 apply s w =
     record {
       number = 0;
       applied = s .applied + 1;
       pixels = s .pixels + count (s .card) w (length (s .picture));
+      changed = s .changed + changed (s .card) w (s .picture);
       card = next (s .card) w (s .picture);
       picture = picture (s .card) w (s .picture);
     }
 
 -- a refused one gives its number, and leaves what was drawn
 unfoldable pub refuse : State → Write → State
-refuse s w = record { number = answer s w; applied = s .applied; pixels = s .pixels; card = s .card; picture = s .picture }
+refuse s w =
+    record { number = answer s w; applied = s .applied; pixels = s .pixels; changed = s .changed; card = s .card; picture = s .picture }
 
 -- entry after entry, until the budget or the entries end, or a write is refused
 unfoldable pub ran : List Write → ℕ → State → State

@@ -8,10 +8,11 @@ mod replay;
 pub use reading::unread;
 pub use replay::run;
 
-// What a run answers: the number, the entries applied, the total pixels and the next card.
+// What a run answers: the number, the entries applied, the total pixels, those changed and the next card.
 pub struct Ran {
     pub number: u32,
     pub applied: u32,
     pub pixels: u32,
+    pub changed: u32,
     pub card: Card,
 }

@@ -17,6 +17,7 @@ pub fn run(part: &[u8], card: Card, vram: &mut [u8], budget: u32) -> Ran
             number: 10,
             applied: 0,
             pixels: 0,
+            changed: 0,
             card,
         };
     }
@@ -25,6 +26,7 @@ pub fn run(part: &[u8], card: Card, vram: &mut [u8], budget: u32) -> Ran
             number: 1,
             applied: 0,
             pixels: 0,
+            changed: 0,
             card,
         };
     }
@@ -32,6 +34,7 @@ pub fn run(part: &[u8], card: Card, vram: &mut [u8], budget: u32) -> Ran
     let mut current = card;
     let mut applied: u32 = 0;
     let mut pixels: u32 = 0;
+    let mut changed: u32 = 0;
     while applied < count {
         if applied == budget {
             break;
@@ -44,17 +47,20 @@ pub fn run(part: &[u8], card: Card, vram: &mut [u8], budget: u32) -> Ran
                 number,
                 applied,
                 pixels,
+                changed,
                 card: current,
             };
         }
         current = answer.card;
         pixels += answer.tally.enabled;
+        changed += answer.tally.changed;
         applied += 1;
     }
     Ran {
         number: 0,
         applied,
         pixels,
+        changed,
         card: current,
     }
 }

@@ -1,7 +1,7 @@
 //! What is timed: all that makes the writes of a row.
 
 use super::rows::Row;
-use crate::model::Write;
+use crate::model::{Answer, Write};
 use std::hint::black_box;
 
 /// What makes writes on a card of its own, and its picture.
@@ -10,7 +10,23 @@ pub struct Side<F> {
     pub vram: Vec<u8>,
 }
 
-impl<F: FnMut(&mut [u8], Write) -> (u32, u32)> Side<F> {
+/// No write yet.
+pub const NONE: Answer = Answer {
+    number: 0,
+    pixels: 0,
+    changed: 0,
+};
+
+/// With one write more: number 0 if all were accepted, and the pixels of all.
+pub fn with(so_far: Answer, answer: Answer) -> Answer {
+    Answer {
+        number: so_far.number | answer.number,
+        pixels: so_far.pixels + answer.pixels,
+        changed: so_far.changed + answer.changed,
+    }
+}
+
+impl<F: FnMut(&mut [u8], Write) -> Answer> Side<F> {
     pub fn new(write: F, picture: &[u8]) -> Side<F> {
         Side {
             write,
@@ -18,29 +34,41 @@ impl<F: FnMut(&mut [u8], Write) -> (u32, u32)> Side<F> {
         }
     }
 
-    /// Makes every write; gives 0 if all were accepted, and the pixels of all.
-    pub fn pass(&mut self, writes: &[Write]) -> (u32, u32) {
-        let mut refused = 0;
-        let mut pixels = 0;
+    /// Makes every write.
+    pub fn pass(&mut self, writes: &[Write]) -> Answer {
+        let mut all = NONE;
         for &write in black_box(writes) {
-            let (number, count) = (self.write)(&mut self.vram, write);
-            refused |= number;
-            pixels += count;
+            all = with(all, (self.write)(&mut self.vram, write));
         }
-        (refused, pixels)
+        all
     }
 
-    /// Sets the card at reset for the row, and makes one pass: all of it must be accepted. Gives its pixels.
-    pub fn first_pass(&mut self, row: &Row) -> Result<u32, String> {
-        let (refused, _) = self.pass(&row.setting);
-        match self.pass(&row.writes) {
-            (0, pixels) if refused == 0 => Ok(pixels),
-            _ => Err(format!("{}: a write is refused", row.name)),
+    /// Sets the card at reset for the row, and makes one pass: all of it must be accepted.
+    pub fn first_pass(&mut self, row: &Row) -> Result<Answer, String> {
+        let setting = self.pass(&row.setting);
+        let all = self.pass(&row.writes);
+        if setting.number == 0 && all.number == 0 {
+            Ok(all)
+        } else {
+            Err(format!("{}: a write is refused", row.name))
         }
     }
 
-    /// Whether a first pass does the work of another, which gave these pixels and this picture.
-    pub fn same_work(&mut self, row: &Row, pixels: u32, vram: &[u8]) -> Result<bool, String> {
-        Ok(self.first_pass(row)? == pixels && self.vram == vram)
+    /// Whether a first pass does the work of another, which gave this answer and this picture. The pixels changed are compared
+    /// where they are `counted`.
+    pub fn same_work(
+        &mut self,
+        row: &Row,
+        wanted: Answer,
+        counted: bool,
+        vram: &[u8],
+    ) -> Result<bool, String> {
+        let all = self.first_pass(row)?;
+        Ok(same_answer(all, wanted, counted) && self.vram == vram)
     }
+}
+
+pub fn same_answer(all: Answer, wanted: Answer, counted: bool) -> bool {
+    let changed = if counted { all.changed } else { wanted.changed };
+    Answer { changed, ..all } == wanted
 }

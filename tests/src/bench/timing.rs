@@ -1,6 +1,6 @@
 //! Times of a row: the engine, the other library, the plain implementation, memset and memcpy take turns.
 
-use super::library::{self, OTHER, THIS};
+use super::library::{self, Library, Other, This, OTHER};
 use super::rows::{Row, VRAM};
 use super::side::Side;
 use crate::fast;
@@ -45,17 +45,20 @@ impl Times {
 pub fn measure(row: &Row) -> Result<Times, String> {
     let picture = Random::of_case(1, 1).bytes(VRAM);
     let mut memory = picture.clone();
-    let mut engine = Side::new(library::card(THIS, row.held), &picture);
+    let mut engine = Side::new(library::card(This, row.held), &picture);
     let mut other = OTHER.map(|other| Side::new(library::card(other, row.held), &picture));
     let mut card = fast::reset(row.held);
-    let mut plain = Side::new(|vram, write| fast::write(&mut card, vram, write), &picture);
-    let pixels = plain.first_pass(row)?;
-    if !engine.same_work(row, pixels, &plain.vram)? {
+    let mut plain = Side::new(
+        |vram: &mut [u8], write| fast::write(&mut card, vram, write),
+        &picture,
+    );
+    let wanted = plain.first_pass(row)?;
+    if !engine.same_work(row, wanted, true, &plain.vram)? {
         return Err(format!("{}: the sides differ", row.name));
     }
     let other_rule = match &mut other {
         None => false,
-        Some(other) => !other.same_work(row, pixels, &plain.vram)?,
+        Some(other) => !other.same_work(row, wanted, Other::CHANGED, &plain.vram)?,
     };
     let drawn = row.pixels > 0;
     let rounds = std::array::from_fn(|_| {

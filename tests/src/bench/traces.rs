@@ -1,7 +1,8 @@
 //! A trace of mixed entries from reset: run whole, and read in chunks. The plain implementation makes its writes one by one.
 
-use super::library::{self, OTHER, THIS};
+use super::library::{self, Library, Other, This, OTHER};
 use super::rows::{Row, VRAM};
+use super::side::{same_answer, with, NONE};
 use super::timing::{timed, Times};
 use crate::damage;
 use crate::engine::card::Card;
@@ -9,7 +10,7 @@ use crate::engine::reader::{fed, Fed, Reader};
 use crate::fast;
 use crate::generate::Maker;
 use crate::model::trace::{HEADER, MOST_ENTRIES};
-use crate::model::{self, Write};
+use crate::model::{self, Answer, Write};
 use crate::random::Random;
 
 /// The longest trace.
@@ -51,27 +52,29 @@ pub fn measure(row: &Row, way: Way) -> Result<Times, String> {
     let picture = Random::of_case(1, 1).bytes(VRAM);
     let mut vrams = [picture.clone(), picture.clone(), picture];
     let bytes = damage::whole(VRAM, &row.writes);
-    let run = |library, vram: &mut [u8]| library::run(library, &bytes[HEADER..], vram);
+    let part = &bytes[HEADER..];
     let engine = |vram: &mut [u8]| match way {
-        Way::Run => run(THIS, vram),
+        Way::Run => library::run(This, part, vram),
         Way::Chunks(size) => read(&bytes, size, vram),
     };
     // A reader and its card go by value, and another commit may lay them out otherwise, so its reader is not called.
     let other = OTHER.filter(|_| matches!(way, Way::Run));
     let wanted = written(&row.writes, &mut vrams[2]);
-    if wanted.0 != 0 {
+    if wanted.number != 0 {
         return Err(format!("{}: a write is refused", row.name));
     }
     if engine(&mut vrams[0]) != wanted || vrams[0] != vrams[2] {
         return Err(format!("{}: the sides differ", row.name));
     }
-    let other_rule =
-        other.is_some_and(|other| run(other, &mut vrams[1]) != wanted || vrams[1] != vrams[2]);
+    let other_rule = other.is_some_and(|other| {
+        let all = library::run(other, part, &mut vrams[1]);
+        !same_answer(all, wanted, Other::CHANGED) || vrams[1] != vrams[2]
+    });
     let rounds = std::array::from_fn(|_| {
         // In the order of `Timed`.
         [
             Some(timed(row.turns, || engine(&mut vrams[0]))),
-            other.map(|other| timed(row.turns, || run(other, &mut vrams[1]))),
+            other.map(|other| timed(row.turns, || library::run(other, part, &mut vrams[1]))),
             Some(timed(row.turns, || written(&row.writes, &mut vrams[2]))),
             None,
             None,
@@ -80,8 +83,8 @@ pub fn measure(row: &Row, way: Way) -> Result<Times, String> {
     Ok(Times { rounds, other_rule })
 }
 
-/// The number and the total pixels of a trace that a new reader gets in chunks.
-fn read(bytes: &[u8], size: usize, vram: &mut [u8]) -> (u32, u32) {
+/// The number and the totals of a trace that a new reader gets in chunks.
+fn read(bytes: &[u8], size: usize, vram: &mut [u8]) -> Answer {
     let mut line = Fed {
         reader: Reader::new(),
         card: Card::from(&model::reset(0)),
@@ -89,17 +92,17 @@ fn read(bytes: &[u8], size: usize, vram: &mut [u8]) -> (u32, u32) {
     for chunk in bytes.chunks(size) {
         line = fed(line.reader, line.card, chunk, vram);
     }
-    (line.reader.end(), line.reader.pixels)
+    Answer {
+        number: line.reader.end(),
+        pixels: line.reader.pixels,
+        changed: line.reader.changed,
+    }
 }
 
-fn written(writes: &[Write], vram: &mut [u8]) -> (u32, u32) {
+fn written(writes: &[Write], vram: &mut [u8]) -> Answer {
     let mut card = fast::reset(0);
-    let mut refused = 0;
-    let mut pixels = 0;
-    for &write in writes {
-        let (number, count) = fast::write(&mut card, vram, write);
-        refused |= number;
-        pixels += count;
-    }
-    (refused, pixels)
+    let answers = writes
+        .iter()
+        .map(|&write| fast::write(&mut card, vram, write));
+    answers.fold(NONE, with)
 }

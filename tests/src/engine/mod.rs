@@ -5,7 +5,7 @@ pub mod card;
 pub mod entries;
 pub mod reader;
 
-use crate::model::{self, trace, Write};
+use crate::model::{self, trace, Answer, Write};
 use card::Card;
 use std::ptr::from_mut;
 
@@ -16,12 +16,25 @@ pub fn reset(before: &model::Card, held: u8) -> model::Card {
     model::Card::from(&card)
 }
 
-pub fn write(card: &mut model::Card, vram: &mut [u8], write: Write) -> (u32, u32) {
+pub fn write(card: &mut model::Card, vram: &mut [u8], write: Write) -> Answer {
     let mut lent = Card::from(&*card);
-    let place = from_mut(&mut lent).cast();
-    let answer = unsafe { entries::write(entries::zevkholtai_write, place, vram, write) };
+    let answer = unsafe {
+        entries::zevkholtai_write(
+            from_mut(&mut lent).cast(),
+            write.space,
+            write.lanes,
+            write.address,
+            write.data,
+            vram.as_mut_ptr(),
+            vram.len(),
+        )
+    };
     *card = model::Card::from(&lent);
-    answer
+    Answer {
+        number: answer.number,
+        pixels: answer.count,
+        changed: answer.changed,
+    }
 }
 
 pub fn start(buffer: &mut [u8], length: u32) -> (u32, u32) {
@@ -66,6 +79,7 @@ pub fn run(part: &[u8], card: &mut model::Card, vram: &mut [u8], budget: u32) ->
         number: ran.number,
         entries: ran.entries,
         pixels: ran.pixels,
+        changed: ran.changed,
         rest: ran.rest,
     }
 }

@@ -11,6 +11,7 @@ pub struct Reader {
     pub announced: u32,
     pub applied: u32,
     pub pixels: u32,
+    pub changed: u32,
     pub filled: u32,
     pub waiting: [u8; 16],
 }
@@ -23,16 +24,17 @@ pub struct Fed {
 
 const _: () = {
     use std::mem::offset_of;
-    assert!(size_of::<Reader>() == 40 && size_of::<Fed>() == 180);
+    assert!(size_of::<Reader>() == 44 && size_of::<Fed>() == 184);
     assert!(offset_of!(Reader, number) == 0);
     assert!(offset_of!(Reader, opened) == 4);
     assert!(offset_of!(Reader, announced) == 8);
     assert!(offset_of!(Reader, applied) == 12);
     assert!(offset_of!(Reader, pixels) == 16);
-    assert!(offset_of!(Reader, filled) == 20);
-    assert!(offset_of!(Reader, waiting) == 24);
+    assert!(offset_of!(Reader, changed) == 20);
+    assert!(offset_of!(Reader, filled) == 24);
+    assert!(offset_of!(Reader, waiting) == 28);
     assert!(offset_of!(Fed, reader) == 0);
-    assert!(offset_of!(Fed, card) == 40);
+    assert!(offset_of!(Fed, card) == 44);
 };
 
 extern "C" {

@@ -6,6 +6,7 @@ use denote.Ref.{now}
 use Rattle.raster.specs.Pixel.{bit}
 use Rattle.raster.proofs.Below.{bit-zeros}
 use Rattle.span.specs.Fragments.{counted}
+use Rattle.span.proofs.Changed.{differing-none}
 use Rattle.span.proofs.Counted.{counted-none}
 use Rattle.span.proofs.Drawn.{drawn-none}
 use Rattle.span.proofs.Spans.{spanned-off, drew}
@@ -25,6 +26,7 @@ returns c =
     in record {
       shows = sym (drawn-none (a .p .op) _ (now (a .vram)) (λ p _. spanned-off (effective (a .card)) (planned (a .p) (a .card)) (λ j _. off j) p));
       counts = sym (counted-none (a .p .width) (planned (a .p) (a .card) .on) (λ j _. off j));
+      changes = sym (differing-none (now (a .vram)));
     }
 
 enum-told : tie.Need-enum-told
@@ -54,7 +56,7 @@ returns-3 : tie.Need-returns-3
 returns-3 c =
     let a = c .before .before .before .before .before .before .before .before .before .args in
     let e = drew _ (a .p .op) (effective (a .card)) (planned (a .p) (a .card)) (c .before .before .before .before .strokes .ensures) (a .p .first) (now (a .vram)) (c .before .before .draw-at .ensures) refl (c .before .before .before .before .before .before .before .before .before .pre .0) in
-    record { shows = e .0; counts = e .1 }
+    record { shows = e .0; counts = e .1; changes = e .2 }
 
 pub planned-spec : {M : Type 1} → statement M
 planned-spec =

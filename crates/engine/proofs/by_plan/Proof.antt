@@ -1,6 +1,8 @@
 -- `engine::by_plan` meets its contract: the plan is carried out. Assumes nothing.
 use mathlib.Core.Path.{ap, sym, _∙_}
 use denote.Ref.{now}
+use Rattle.span.specs.Fragments.{differing}
+use Rattle.demands.proofs.Changed.{whole}
 use Rattle.plan.specs.Plan.{left}
 use Rattle.plan.specs.declared.Plan.{Plan}
 use Rattle.plan.proofs.PlanEffect.{planned-drawable, planned-shows, planned-counts, planned-leaves}
@@ -25,11 +27,13 @@ returns c =
     let of = c .before .before .before .before .before .before .before .pre .0 in
     let ok = c .before .before .before .before .before .before .before .pre .1 in
     let drew = carried (a .card) v of (planned-drawable (a .card) (a .w) v ok) (c .before .before .draw .ensures) in
+    let shown = drew .shows ∙ sym (planned-shows (a .card) (a .w) v ok) in
     record {
       number = sym ok;
       counts = drew .counts ∙ sym (planned-counts (a .card) (a .w) v ok);
+      changes = drew .changes ∙ (ap (differing v) shown ∙ sym (whole (a .card) (a .w) v));
       leaves = c .before .before .before .before .left .ensures ∙ (ap (λ (p : Plan). left (p .effect) (a .card) (a .w) v) of ∙ sym (planned-leaves (a .card) (a .w) v ok));
-      shows = drew .shows ∙ sym (planned-shows (a .card) (a .w) v ok);
+      shows = shown;
     }
 
 pub by-plan-spec : {M : Type 1} → statement M

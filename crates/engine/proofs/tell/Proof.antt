@@ -9,7 +9,7 @@ use Rattle.plan.specs.Plan.{planOf, judged}
 use Rattle.rules.specs.Refusal.{refusal}
 use Rattle.plan.specs.declared.Plan.{Plan}
 use Rattle.rules.proofs.Tests.{said}
-use Rattle.rules.proofs.Outcome.{count-refused, next-refused, picture-refused}
+use Rattle.rules.proofs.Outcome.{count-refused, changed-refused, next-refused, picture-refused}
 use Rattle.plan.proofs.PlanNumber.{planned-number}
 use Rattle.engine.proofs.Letters.{keeps-refused, keeps-accepted}
 use borrow.Author.Needs.{needs}
@@ -38,6 +38,7 @@ returns c =
       record {
         number = n;
         counts = sym (count-refused (a .card) (a .w) v no);
+        changes = sym (changed-refused (a .card) (a .w) v no);
         leaves = sym (next-refused (a .card) (a .w) v no);
         shows = sym (picture-refused (a .card) (a .w) v no);
       },

@@ -33,10 +33,11 @@ returns c =
     let ok = c .before .before .before .before .before .before .before .before .before .pre .1 in
     let s : Strokes = record { op = 3; enable = a .card .mask .bits; source = c .before .before .before .before .before .before .before .stippled .result; mask = c .before .before .before .before .before .before .masks .result; width = 32 } in
     let drew = text-drawn (a .card) (a .w) is v ok s refl refl refl (c .before .before .before .before .before .before .masks .ensures) (c .before .before .before .before .before .before .before .stippled .ensures)
-    {r = record { enabled = c .before .enabled-by .result }} (c .before .before .before .before .text-at .ensures) (c .before .enabled-by .ensures) in
+    {r = record { enabled = c .before .enabled-by .result; changed = c .before .before .before .before .text-at .result }} (c .before .before .before .before .text-at .ensures .0) (c .before .enabled-by .ensures) (c .before .before .before .before .text-at .ensures .1) in
     record {
       number = sym ok;
       counts = drew .1;
+      changes = drew .2;
       leaves = c .mask-used .ensures (a .w) v ∙ text-leaves (a .card) (a .w) is v ok;
       shows = drew .0;
     }

@@ -6,6 +6,7 @@ use native.Mathlib.Omega.{arith}
 use lib.ListN.{length}
 use borrow.Author.Needs.{needs}
 use Rattle.card.specs.Registers.{isSet}
+use Rattle.demands.proofs.Changed.{within}
 use Rattle.demands.proofs.Counting.{count-bound}
 use Rattle.format.specs.Traces.{largest}
 use Rattle.line.specs.declared.Reader.{Reader}
@@ -42,11 +43,25 @@ add-t15 c =
       count-bound (start .args .card) (start .args .w) (length (start .args .vram .now)),
     )
 
+add-t16 : tie.Need-add-t16
+add-t16 c =
+    let start = c .before .before .before .before .before .before .before .before .before .before .before in
+    let (_, s, o, m) = start .pre in
+    omega (
+      arith,
+      room _ s o m,
+      to-sound _ s .total,
+      to-sound _ s .changes,
+      c .before .before .before .before .before .before .before .before .write .ensures .changes,
+      within (start .args .card) (start .args .w) (start .args .vram .now),
+      count-bound (start .args .card) (start .args .w) (length (start .args .vram .now)),
+    )
+
 same-length-2 : tie.Need-same-length-2
 same-length-2 c = search needs
 
 returns-2 : tie.Need-returns-2
-returns-2 c = drew-applied _ _ _ _ (c .before .before .before .before .before .before .before .write .ensures) (c .before .before .before .before .if1 .left)
+returns-2 c = drew-applied _ _ _ _ (c .before .before .before .before .before .before .before .before .before .write .ensures) (c .before .before .before .before .before .before .if1 .left)
 
 pub draw-spec : {M : Type 1} → statement M
-draw-spec = tie.close (tie.spec write-requires same-length returns add-t14 add-t15 same-length-2 returns-2)
+draw-spec = tie.close (tie.spec write-requires same-length returns add-t14 add-t15 add-t16 same-length-2 returns-2)

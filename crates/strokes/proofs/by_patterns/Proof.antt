@@ -1,32 +1,34 @@
 -- `strokes::by_patterns` meets its contract. The loop's invariant: the pattern is drawn i times. Assumes nothing.
-use mathlib.Core.Path.{_≡_, refl, ap, sym, _∙_}
+use mathlib.Core.Path.{_≡_, refl}
 use Prim.Native.Nat.{ℕ, _+_, _-_, _*_, _≤_}
 use native.Mathlib.Omega.{arith}
-use denote.Ref.{now}
 use lib.ListN.{length}
-use Rattle.span.specs.Fragments.{Fragment, drawn, before}
+use Rattle.span.specs.Fragments.{Fragment}
 use Rattle.tables.specs.Reduced.{Makes}
-use Rattle.span.proofs.Painted.{before-past}
-use Rattle.span.proofs.Drawn.{drawn-none}
+use Rattle.strokes.specs.Progress.{Further}
+use Rattle.strokes.proofs.Turns.{further-none, further-as, further-then}
 use Rattle.strokes.proofs.by_patterns.Statement.{statement}
 use Rattle.strokes.proofs.by_patterns.Tie as tie
 
 abbrev Inv-loop : tie.InvT-loop
-Inv-loop part₀ n t i₀ part i =
-    (i ≤ n) × (length part ≡ length part₀)
-    × ((op : ℕ) (f : ℕ → Fragment) → Makes t op f → part ≡ drawn op (before (32 * i) f) part₀)
+Inv-loop part₀ n t changed₀ i₀ part changed i =
+    (i ≤ n) × (length part ≡ length part₀) × (changed ≤ 32 * i)
+    × ((op : ℕ) (f : ℕ → Fragment) → Makes t op f → Further op f 0 (32 * i) part₀ changed part)
 
 abbrev μ-loop : tie.MeasureT-loop
-μ-loop part₀ n t i₀ part i = n - i
+μ-loop part₀ n t changed₀ i₀ part changed i = n - i
 
 loop-holds : tie.Need-loop-holds Inv-loop μ-loop
-loop-holds c = (omega arith, refl, λ op f m. sym (drawn-none op (before (32 * 0) f) _ (λ p l. before-past (32 * 0) f (omega arith))))
+loop-holds c = (omega arith, refl, omega arith, λ op f m. further-as (further-none op f 0 _) refl (omega arith) refl)
 
 mul-pattern : tie.Need-mul-pattern Inv-loop μ-loop
 mul-pattern c = omega arith
 
 pattern-requires : tie.Need-pattern-requires Inv-loop μ-loop
 pattern-requires c κs = (omega arith, omega arith)
+
+add-changed : tie.Need-add-changed Inv-loop μ-loop
+add-changed c = omega (arith, c .before .before .pattern .ensures .0)
 
 add-i : tie.Need-add-i Inv-loop μ-loop
 add-i c = omega arith
@@ -36,12 +38,13 @@ loop-less c = omega arith
 
 loop-again : tie.Need-loop-again Inv-loop μ-loop
 loop-again c =
-    let v = now (c .before .before .before .before .before .before .before .args .part) in
     let l = c .before .before .before .before .before .loop in
-    let e : 32 * l .i + 32 ≡ 32 * (l .i + 1) = omega arith in (
+    let e = c .before .before .pattern .ensures in
+    let d : 32 * l .i + 32 ≡ 32 * (l .i + 1) = omega arith in (
       omega arith,
       omega arith,
-      λ op f m. c .before .before .pattern .ensures op f m v (l .inv .2 op f m) ∙ ap (λ (n : ℕ). drawn op (before n f) v) e,
+      omega (arith, e .0),
+      λ op f m. further-then (l .inv .3 op f m) (further-as (e .1 op f m) refl d refl),
     )
 
 same-length : tie.Need-same-length Inv-loop μ-loop
@@ -49,10 +52,8 @@ same-length c = c .before .loop .inv .1
 
 returns : tie.Need-returns Inv-loop μ-loop
 returns c =
-    let v = now (c .before .before .before .args .part) in
     let l = c .before .loop in
-    let e : 32 * l .i ≡ 32 * c .before .before .before .args .n = omega arith in
-    λ op f m. l .inv .2 op f m ∙ ap (λ (n : ℕ). drawn op (before n f) v) e
+    let e : 32 * l .i ≡ 32 * c .before .before .before .args .n = omega arith in (omega arith, λ op f m. further-as (l .inv .3 op f m) refl e refl)
 
 pub by-patterns-spec : {M : Type 1} → statement M
 by-patterns-spec =
@@ -63,6 +64,7 @@ by-patterns-spec =
     loop-holds
     mul-pattern
     pattern-requires
+    add-changed
     add-i
     loop-less
     loop-again

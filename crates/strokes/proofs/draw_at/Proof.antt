@@ -4,11 +4,13 @@ use Prim.Native.Nat.{ℕ, _-_, min}
 use native.Mathlib.Omega.{arith}
 use denote.Ref.{now}
 use lib.ListN.{length}
-use Rattle.span.specs.Fragments.{before, counted}
+use Rattle.span.specs.Fragments.{before, counted, differing}
 use Rattle.span.specs.Strokes.{stroke, enabled}
+use Rattle.span.proofs.Changed.{differing-none}
 use Rattle.span.proofs.Drawn.{drawn-none}
 use Rattle.span.proofs.Painted.{from-below}
 use Rattle.span.proofs.Spans.{put-drawn, part-length}
+use Rattle.strokes.proofs.Turns.{part-changes}
 use borrow.Author.Needs.{needs}
 use Rattle.strokes.proofs.draw_at.Statement.{statement}
 use Rattle.strokes.proofs.draw_at.Tie as tie
@@ -24,6 +26,7 @@ returns c =
     record {
       shows = sym (drawn-none (a .s .op) _ (now (a .vram)) (λ p l. from-below (a .first) _ (omega arith)));
       counts = sym (ap (λ (n : ℕ). counted n (enabled (a .s))) e);
+      changes = sym (differing-none (now (a .vram)));
     }
 
 part-draw-start : tie.Need-part-draw-start
@@ -42,9 +45,14 @@ returns-2 : tie.Need-returns-2
 returns-2 c =
     let a = c .before .before .before .before .before .before .args in
     let e = c .before .before .draw .ensures in
+    let v = now (a .vram) in
+    let shown = put-drawn (a .s .op) (a .first) (before (a .s .width) (stroke (a .s))) v _ (omega arith) (e .0) in
     record {
-      shows = put-drawn (a .s .op) (a .first) (before (a .s .width) (stroke (a .s))) (now (a .vram)) _ (omega arith) (e .0);
-      counts = e .1 ∙ ap (λ (n : ℕ). counted (min (a .s .width) n) (enabled (a .s))) (part-length (a .first) (now (a .vram)) (omega arith));
+      shows = shown;
+      counts = e .1 ∙ ap (λ (n : ℕ). counted (min (a .s .width) n) (enabled (a .s))) (part-length (a .first) v (omega arith));
+      changes = e .2
+          ∙ (part-changes (a .s .op) (a .first) (a .s .width) _ (stroke (a .s)) v (ap (min (a .s .width)) (part-length (a .first) v (omega arith)))
+          ∙ ap (differing v) (sym shown));
     }
 
 pub draw-at-spec : {M : Type 1} → statement M

@@ -1,10 +1,11 @@
 -- `strokes::pattern` meets its contract: four words. Assumes nothing.
-use mathlib.Core.Path.{ap, _∙_}
-use Prim.Native.Nat.{ℕ, _+_}
+use mathlib.Core.Path.{refl, sym}
+use Prim.Native.Nat.{_+_}
+use denote.Ref.{now}
 use native.Mathlib.Nat.{add-assoc}
 use native.Mathlib.Omega.{arith}
-use Rattle.span.specs.Fragments.{drawn, before}
-use Rattle.strokes.proofs.Turns.{word-turn, as-long}
+use Rattle.strokes.proofs.Tallies.{marks-small, four-words}
+use Rattle.strokes.proofs.Turns.{word-turn, further-then, further-as}
 use borrow.Author.Needs.{needs}
 use Rattle.strokes.proofs.pattern.Statement.{statement}
 use Rattle.strokes.proofs.pattern.Tie as tie
@@ -54,24 +55,36 @@ element-copy-out-word-8 c = search needs
 word-requires-4 : tie.Need-word-requires-4
 word-requires-4 c κs = search needs
 
+add-total : tie.Need-add-total
+add-total c = omega (arith, marks-small (c .before .before .before .before .before .before .before .before .before .before .before .before .before .before .before .before .before .before .before .before .word .ensures .1), marks-small (c .before .before .before .before .before .before .before .before .before .before .before .before .before .before .word2 .ensures .1))
+
+add-total-2 : tie.Need-add-total-2
+add-total-2 c = omega (arith, marks-small (c .before .before .before .before .before .before .before .before .before .before .before .before .before .before .before .before .before .before .before .before .word .ensures .1), marks-small (c .before .before .before .before .before .before .before .before .before .before .before .before .before .before .word2 .ensures .1), marks-small (c .before .before .before .before .before .before .before .before .word3 .ensures .1))
+
+add-total-3 : tie.Need-add-total-3
+add-total-3 c = omega (arith, marks-small (c .before .before .before .before .before .before .before .before .before .before .before .before .before .before .before .before .before .before .before .before .word .ensures .1), marks-small (c .before .before .before .before .before .before .before .before .before .before .before .before .before .before .word2 .ensures .1), marks-small (c .before .before .before .before .before .before .before .before .word3 .ensures .1), marks-small (c .before .before .word4 .ensures .1))
+
+total-requires : tie.Need-total-requires
+total-requires c κs = search needs
+
 same-length : tie.Need-same-length
 same-length c = search needs
 
 returns : tie.Need-returns
 returns c =
-    let t = c .before .before .before .before .before .before .before .before .before .before .before .before .before .before .before .before .before .before .before .before .before .before .before .before .before .args .t3 in
-    let at = c .before .before .before .before .before .before .before .before .before .before .before .before .before .before .before .before .before .before .before .before .before .before .before .before .before .args .at in
-    λ op f m v e.
-    let long = as-long op f v at e in
-    let one = word-turn op f v t m at 0 (omega arith) (omega arith) (omega arith) (λ i. c .before .before .before .before .before .before .before .before .before .before .before .before .before .before .before .before .before .before .before .before .before .before .before .before .slice-known .given i .fits) e (c .before .before .before .before .before .before .before .before .before .before .before .before .before .before .before .before .before .before .before .before .word .ensures) in
-    let two = word-turn op f v t m (at + 8) 1 (omega arith) (omega arith) (omega arith) (λ i. c .before .before .before .before .before .before .before .before .before .before .before .before .before .before .before .before .before .before .slice-known2 .given i .fits) one (c .before .before .before .before .before .before .before .before .before .before .before .before .before .before .word2 .ensures) in
-    let three
-    = word-turn op f v t m (at + 16) 2 (omega arith) (omega arith) (omega arith) (λ i. c .before .before .before .before .before .before .before .before .before .before .before .before .slice-known3 .given i .fits)
-    (two ∙ ap (λ (n : ℕ). drawn op (before n f) v) (add-assoc at 8 8)) (c .before .before .before .before .before .before .before .before .word3 .ensures)
-    in
-    word-turn op f v t m (at + 24) 3 (omega arith) (omega arith) (omega arith) (λ i. c .before .before .before .before .before .before .slice-known4 .given i .fits)
-    (three ∙ ap (λ (n : ℕ). drawn op (before n f) v) (add-assoc at 16 8)) (c .before .before .word4 .ensures)
-    ∙ ap (λ (n : ℕ). drawn op (before n f) v) (add-assoc at 24 8)
+    let t = c .before .before .before .before .before .before .before .before .before .before .before .before .before .before .before .before .before .before .before .before .before .before .before .before .before .before .args .t3 in
+    let at = c .before .before .before .before .before .before .before .before .before .before .before .before .before .before .before .before .before .before .before .before .before .before .before .before .before .before .args .at in
+    let sum = four-words (c .before .before .before .before .before .before .before .before .before .before .before .before .before .before .before .before .before .before .before .before .before .word .ensures .1) (c .before .before .before .before .before .before .before .before .before .before .before .before .before .before .before .word2 .ensures .1) (c .before .before .before .before .before .before .before .before .before .word3 .ensures .1) (c .before .before .before .word4 .ensures .1) (c .total .ensures) in (
+      sum .1,
+      λ op f m.
+          let one = word-turn op f t m at 0 (now (c .before .before .before .before .before .before .before .before .before .before .before .before .before .before .before .before .before .before .before .before .before .before .before .before .before .before .args .part)) (omega arith) (omega arith) (c .before .before .before .before .before .before .before .before .before .before .before .before .before .before .before .before .before .before .before .before .before .word .ensures .0) (λ i. c .before .before .before .before .before .before .before .before .before .before .before .before .before .before .before .before .before .before .before .before .before .before .before .before .before .slice-known .given i .fits) (omega arith) in
+          let two = word-turn op f t m (at + 8) 1 (c .before .before .before .before .before .before .before .before .before .before .before .before .before .before .before .before .before .before .before .before .before .word .last .0) (omega arith) (omega arith) (c .before .before .before .before .before .before .before .before .before .before .before .before .before .before .before .word2 .ensures .0) (λ i. c .before .before .before .before .before .before .before .before .before .before .before .before .before .before .before .before .before .before .before .slice-known2 .given i .fits) (omega arith) in
+          let three = word-turn op f t m (at + 16) 2 (c .before .before .before .before .before .before .before .before .before .before .before .before .before .before .before .word2 .last .0) (omega arith) (omega arith) (c .before .before .before .before .before .before .before .before .before .word3 .ensures .0) (λ i. c .before .before .before .before .before .before .before .before .before .before .before .before .before .slice-known3 .given i .fits) (omega arith) in
+          let four = word-turn op f t m (at + 24) 3 (c .before .before .before .before .before .before .before .before .before .word3 .last .0) (omega arith) (omega arith) (c .before .before .before .word4 .ensures .0) (λ i. c .before .before .before .before .before .before .before .slice-known4 .given i .fits) (omega arith) in
+          further-as
+          (further-then (further-then (further-then one (further-as two refl (add-assoc at 8 8) refl)) (further-as three refl (add-assoc at 16 8) refl)) (further-as four refl (add-assoc at 24 8) refl))
+          refl refl (sym (sum .0)),
+    )
 
 pub pattern-spec : {M : Type 1} → statement M
 pattern-spec =
@@ -92,5 +105,9 @@ pattern-spec =
     element-copy-out-word-7
     element-copy-out-word-8
     word-requires-4
+    add-total
+    add-total-2
+    add-total-3
+    total-requires
     same-length
     returns)

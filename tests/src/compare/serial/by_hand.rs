@@ -14,7 +14,7 @@ use crate::model::{serial, Card};
 /// The number and totals, the card and the picture that a chunk must leave. No totals where a header is unfinished.
 struct Expected {
     number: u32,
-    totals: Option<(u32, u32)>,
+    totals: Option<[u32; 3]>,
     card: Card,
     picture: Vec<u8>,
 }
@@ -71,6 +71,7 @@ fn reader(maker: &mut Maker, opened: u32, bytes: &[u8]) -> Reader {
     let announced = near(maker, MOST_ENTRIES as u32);
     let applied = near(maker, announced);
     let pixels = near(maker, applied.wrapping_mul(2048));
+    let changed = near(maker, pixels);
     let filled = near(maker, (awaited - 1).min(bytes.len()) as u32);
     let mut waiting = [0; 16];
     waiting.copy_from_slice(&maker.random.bytes(16));
@@ -89,19 +90,21 @@ fn reader(maker: &mut Maker, opened: u32, bytes: &[u8]) -> Reader {
         announced,
         applied,
         pixels,
+        changed,
         filled,
         waiting,
     }
 }
 
-/// Why no bytes can leave this reader: by the bytes that wait, the entries applied or announced, or the pixels.
-fn faults(reader: &Reader) -> [bool; 4] {
+/// Why no bytes can leave this reader: by the bytes that wait, the entries applied or announced, the pixels, or those changed.
+fn faults(reader: &Reader) -> [bool; 5] {
     let awaited = if reader.opened == 0 { HEADER } else { ENTRY };
     [
         reader.filled as usize >= awaited,
         reader.applied > reader.announced,
         u64::from(reader.announced) > MOST_ENTRIES,
         u64::from(reader.pixels) > 2048 * u64::from(reader.applied),
+        reader.changed > reader.pixels,
     ]
 }
 
@@ -109,7 +112,7 @@ fn faults(reader: &Reader) -> [bool; 4] {
 fn at_sight(reader: &Reader) -> Option<u32> {
     if reader.number != 0 {
         Some(reader.number)
-    } else if faults(reader) != [false; 4] {
+    } else if faults(reader) != [false; 5] {
         Some(10)
     } else {
         None
@@ -150,8 +153,12 @@ fn fed(
         going_on(reader, bytes, from, start.card, start.picture)
     };
     same("number", &expected.number, &given.number)?;
-    let totals = expected.totals.unwrap_or((reader.applied, reader.pixels));
-    same("totals", &totals, &(given.applied, given.pixels))?;
+    let of = |reader: &Reader| [reader.applied, reader.pixels, reader.changed];
+    same(
+        "totals",
+        &expected.totals.unwrap_or(of(reader)),
+        &of(&given),
+    )?;
     same("card", &expected.card, &card)?;
     same_bytes("VRAM", &expected.picture, &picture)?;
     Ok(given)
@@ -165,7 +172,7 @@ fn opening(bytes: &[u8], from: usize, mut card: Card, mut picture: Vec<u8>) -> E
     let whole = bytes.len() >= HEADER;
     Expected {
         number,
-        totals: whole.then(|| (model.entries(), model.pixels())),
+        totals: whole.then(|| [model.entries(), model.pixels(), model.changed()]),
         card,
         picture,
     }
@@ -190,7 +197,11 @@ fn going_on(
         } else {
             ran.number
         },
-        totals: Some((reader.applied + ran.entries, reader.pixels + ran.pixels)),
+        totals: Some([
+            reader.applied + ran.entries,
+            reader.pixels + ran.pixels,
+            reader.changed + ran.changed,
+        ]),
         card,
         picture,
     }

@@ -12,9 +12,9 @@ pub struct Start {
     pub picture: Vec<u8>,
 }
 
-/// How a line stands: the number, the entries applied, the total pixels, the card and the picture.
+/// How a line stands: the number, the entries applied, the total pixels, those changed, the card and the picture.
 pub struct Standing {
-    numbers: (u32, u32, u32),
+    numbers: [u32; 4],
     card: Card,
     picture: Vec<u8>,
 }
@@ -77,7 +77,7 @@ impl Start {
         reader.chunk(bytes, &mut card, &mut picture);
         let number = reader.end();
         let standing = Standing {
-            numbers: (number, reader.applied, reader.pixels),
+            numbers: [number, reader.applied, reader.pixels, reader.changed],
             card,
             picture,
         };
@@ -93,11 +93,15 @@ impl Start {
         let mut picture = self.picture.clone();
         let ran = trace::run(&bytes[trace::HEADER..], &mut card, &mut picture, u32::MAX);
         Some(Standing {
-            numbers: (ran.number, ran.entries, ran.pixels),
+            numbers: [ran.number, ran.entries, ran.pixels, ran.changed],
             card,
             picture,
         })
     }
+}
+
+fn totals(number: u32, reader: &serial::Reader) -> [u32; 4] {
+    [number, reader.entries(), reader.pixels(), reader.changed()]
 }
 
 pub struct Line<'a> {
@@ -146,9 +150,13 @@ impl Line<'_> {
             None => format!("after the end call, {} bytes in all", self.sent.len()),
         };
         let before = mem::replace(&mut self.number, ours);
-        let totals = (ours, self.ours.entries(), self.ours.pixels());
-        let others = (theirs, self.theirs.applied, self.theirs.pixels);
-        same(&format!("number and totals {at}"), &totals, &others)?;
+        let reader = &self.theirs;
+        let others = [theirs, reader.applied, reader.pixels, reader.changed];
+        same(
+            &format!("number and totals {at}"),
+            &totals(ours, &self.ours),
+            &others,
+        )?;
         same(&format!("card {at}"), &self.cards.0, &self.cards.1)?;
         self.vram.same(&format!("VRAM {at}"))?;
         self.met.call(&Call {
@@ -165,7 +173,7 @@ impl Line<'_> {
 
     fn left(self) -> Sent {
         let standing = Standing {
-            numbers: (self.number, self.ours.entries(), self.ours.pixels()),
+            numbers: totals(self.number, &self.ours),
             card: self.cards.0,
             picture: self.vram.model,
         };

@@ -24,12 +24,13 @@ const SITUATIONS: [&str; 16] = [
 ];
 
 /// Readers put together by hand.
-const BY_HAND: [&str; 8] = [
+const BY_HAND: [&str; 9] = [
     "number that sticks, by hand",
     "10 for bytes that wait alone",
     "10 for entries applied alone",
     "10 for entries announced alone",
     "10 for pixels alone",
+    "10 for pixels changed alone",
     "header read on, by hand",
     "entries read on, by hand",
     "nonzero pad byte waits and its entry is drawn, by hand",
@@ -157,9 +158,9 @@ impl Met {
     }
 
     /// A chunk for a reader put together by hand, and the reader that it left; `faults` say why it cannot be.
-    pub fn by_hand(&mut self, reader: &Reader, faults: [bool; 4], left: &Reader) {
-        let alone = |i| reader.number == 0 && (0..4).all(|k| faults[k] == (k == i));
-        let read = reader.number == 0 && faults == [false; 4];
+    pub fn by_hand(&mut self, reader: &Reader, faults: [bool; 5], left: &Reader) {
+        let alone = |i| reader.number == 0 && (0..5).all(|k| faults[k] == (k == i));
+        let read = reader.number == 0 && faults == [false; 5];
         let entries = read && reader.opened != 0;
         let pad = (2..4).any(|i| i < reader.filled as usize && reader.waiting[i] != 0);
         let met = [
@@ -168,6 +169,7 @@ impl Met {
             alone(1),
             alone(2),
             alone(3),
+            alone(4),
             read && reader.opened == 0,
             entries,
             entries && pad && left.applied > reader.applied,

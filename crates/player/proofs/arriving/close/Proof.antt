@@ -12,7 +12,7 @@ end-requires : tie.Need-end-requires
 end-requires c κs = search needs
 
 abbrev answer : ℕ → Reader → Played
-answer n e = record { number = e .number; entries = e .applied; pixels = e .pixels; length = n }
+answer n e = record { number = e .number; entries = e .applied; pixels = e .pixels; changed = e .changed; length = n }
 
 returns : tie.Need-returns
 unfolding closed

@@ -1,6 +1,6 @@
 -- `strokes::memory::join` meets its contract. Assumes nothing.
 use native.Mathlib.Omega.{arith}
-use Rattle.strokes.specs.Words.{joined}
+use Rattle.words.specs.Words.{joined}
 use borrow.Author.Needs.{needs}
 use Rattle.strokes.proofs.memory.join.Statement.{statement}
 use Rattle.strokes.proofs.memory.join.Tie as tie

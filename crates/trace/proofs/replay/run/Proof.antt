@@ -13,20 +13,21 @@ use Rattle.format.specs.Traces.{largest, entryCount, wellFormed}
 use Rattle.format.proofs.Tested.{formed}
 use Rattle.trace.specs.Run.{run}
 use Rattle.trace.proofs.Runs.{run-malformed, run-bad}
-use Rattle.trace.proofs.Turns.{standing, remaining, all-left, all-read, all-spent, read-inside, turn-refused, turn-applied, turn-length, turn-pixels}
+use Rattle.trace.proofs.Turns.{standing, remaining, all-left, all-read, all-spent, read-inside, turn-refused, turn-applied, turn-length, turn-pixels, turn-changed}
 use Rattle.trace.proofs.replay.run.Statement.{statement}
 use Rattle.trace.proofs.replay.run.Tie as tie
 
 abbrev Inv-loop : tie.InvT-loop
-Inv-loop part vram₀ budget count current₀ applied₀ pixels₀ vram current applied pixels =
+Inv-loop part vram₀ budget count current₀ applied₀ pixels₀ changed₀ vram current applied pixels changed =
     (applied ≤ count)
     × (applied ≤ budget)
     × (length vram ≡ length vram₀)
     × (pixels ≤ 2048 * applied)
-    × (remaining part count budget applied (standing applied pixels current vram) ≡ run part budget current₀ vram₀)
+    × (changed ≤ pixels)
+    × (remaining part count budget applied (standing applied pixels changed current vram) ≡ run part budget current₀ vram₀)
 
 abbrev μ-loop : tie.MeasureT-loop
-μ-loop part vram₀ budget count current₀ applied₀ pixels₀ vram current applied pixels = count - applied
+μ-loop part vram₀ budget count current₀ applied₀ pixels₀ changed₀ vram current applied pixels changed = count - applied
 
 well-formed-requires : tie.Need-well-formed-requires Inv-loop μ-loop
 well-formed-requires c κs = search needs
@@ -57,7 +58,7 @@ cast-count : tie.Need-cast-count Inv-loop μ-loop
 cast-count c = omega (arith, few c)
 
 loop-holds : tie.Need-loop-holds Inv-loop μ-loop
-loop-holds c = (search needs, search needs, refl, search needs, all-left _ _ _ _ (is-formed c) (is-good c))
+loop-holds c = (search needs, search needs, refl, search needs, search needs, all-left _ _ _ _ (is-formed c) (is-good c))
 
 cast-entry-at : tie.Need-cast-entry-at Inv-loop μ-loop
 cast-entry-at c = search needs
@@ -83,11 +84,11 @@ returns-3 c =
     let entry = wrote .before .before in
     let more = entry .before .before .loop-test .taken in
     let l = entry .before .before .before .loop in
-    turn-refused _ _ _ (l .applied) (l .pixels) (l .current) (l .vram) more (in-budget (entry .before))
+    turn-refused _ _ _ (l .applied) (l .pixels) (l .changed) (l .current) (l .vram) more (in-budget (entry .before))
     (read-inside _ (l .applied) more (entry .entry-at .ensures))
     (wrote .write .ensures)
     (c .if4 .taken)
-    ∙ l .inv .4
+    ∙ l .inv .5
 
 add-pixels : tie.Need-add-pixels Inv-loop μ-loop
 add-pixels c =
@@ -101,9 +102,22 @@ add-pixels c =
       turn-pixels (l .current) (l .vram) (wrote .write .ensures) (l .applied) (l .pixels) (l .inv .3),
     )
 
+add-changed : tie.Need-add-changed Inv-loop μ-loop
+add-changed c =
+    let wrote = c .before .before .before .before .before .before in
+    let entry = wrote .before .before in
+    let l = entry .before .before .before .loop in
+    omega (
+      arith,
+      few (entry .before .before .before .before),
+      entry .before .before .loop-test .taken,
+      turn-pixels (l .current) (l .vram) (wrote .write .ensures) (l .applied) (l .pixels) (l .inv .3),
+      turn-changed (l .current) (l .vram) (wrote .write .ensures) (l .pixels) (l .changed) (l .inv .4),
+    )
+
 add-applied : tie.Need-add-applied Inv-loop μ-loop
 add-applied c =
-    let loop-test = c .before .before .before .before .before .before .before .before .before in
+    let loop-test = c .before .before .before .before .before .before .before .before .before .before in
     omega (arith, few (loop-test .before .before), loop-test .loop-test .taken)
 
 loop-less : tie.Need-loop-less Inv-loop μ-loop
@@ -111,7 +125,7 @@ loop-less c = search needs
 
 loop-again : tie.Need-loop-again Inv-loop μ-loop
 loop-again c =
-    let wrote = c .before .before .before .before .before in
+    let wrote = c .before .before .before .before .before .before in
     let entry = wrote .before .before in
     let more = entry .before .before .loop-test .taken in
     let left = in-budget (entry .before) in
@@ -120,24 +134,25 @@ loop-again c =
       omega (arith, left),
       turn-length (l .current) (l .vram) (wrote .write .ensures) ∙ l .inv .2,
       turn-pixels (l .current) (l .vram) (wrote .write .ensures) (l .applied) (l .pixels) (l .inv .3),
-      turn-applied _ _ _ (l .applied) (l .pixels) (l .current) (l .vram) more left
+      turn-changed (l .current) (l .vram) (wrote .write .ensures) (l .pixels) (l .changed) (l .inv .4),
+      turn-applied _ _ _ (l .applied) (l .pixels) (l .changed) (l .current) (l .vram) more left
           (read-inside _ (l .applied) more (entry .entry-at .ensures))
           (wrote .write .ensures)
-          (c .before .before .if4 .left)
-          ∙ l .inv .4,
+          (c .before .before .before .if4 .left)
+          ∙ l .inv .5,
     )
 
 same-length-2 : tie.Need-same-length-2 Inv-loop μ-loop
 same-length-2 c = search needs
 
 returns-4 : tie.Need-returns-4 Inv-loop μ-loop
-returns-4 c = all-read _ _ _ _ _ (c .loop-test .left) ∙ c .before .loop .inv .4
+returns-4 c = all-read _ _ _ _ _ (c .loop-test .left) ∙ c .before .loop .inv .5
 
 same-length-3 : tie.Need-same-length-3 Inv-loop μ-loop
 same-length-3 c = search needs
 
 returns-5 : tie.Need-returns-5 Inv-loop μ-loop
-returns-5 c = all-spent _ _ _ _ _ (c .if3 .taken) ∙ c .before .before .loop .inv .4
+returns-5 c = all-spent _ _ _ _ _ (c .if3 .taken) ∙ c .before .before .loop .inv .5
 
 pub run-spec : {M : Type 1} → statement M
 run-spec =
@@ -158,6 +173,7 @@ run-spec =
     same-length
     returns-3
     add-pixels
+    add-changed
     add-applied
     loop-less
     loop-again
