@@ -1,4 +1,4 @@
--- Samples S1 to S11 of the scope paper, each as it stands there, S6 as Ask 1 reads it, and four more for slips, computed from the definitions.
+-- Samples S1 to S11 of the scope paper, each as it stands there, S6 as Ask 1 reads it, how many pixels they change, and four more for slips, computed from the definitions.
 -- Assumes nothing.
 use mathlib.Core.Path.{_≡_, refl}
 use mathlib.Core.List.{List, [], _∷_, _++_}
@@ -6,8 +6,8 @@ use Prim.Native.Nat.{ℕ}
 use lib.ListN.{replicate}
 use Rattle.raster.specs.Pixel.{bit, number, result, made, composite}
 use Rattle.raster.proofs.Samples.{s9}
-use Rattle.span.specs.Fragments.{byte, from, before, drawn, counted, listed}
-use Rattle.span.specs.Layers.{drawnAll}
+use Rattle.span.specs.Fragments.{byte, from, before, drawn, counted, differing, listed}
+use Rattle.span.specs.Layers.{drawnAll, changedAll}
 use Rattle.card.specs.declared.Write.{Write}
 use Rattle.card.specs.Registers.{rowAt, rowIn, table}
 use Rattle.card.specs.Access.{stores}
@@ -15,7 +15,7 @@ use Rattle.card.specs.Reset.{resetCard}
 use Rattle.span.specs.Spans.{spanned}
 use Rattle.rules.specs.Modes.{modeOf, frameSpan, spansOf, effectiveBy}
 use Rattle.rules.specs.Refusal.{badLength, badSpace, badLanes, noRegister, badMode, badRaster, offBoundary, outside, unloaded, refusal}
-use Rattle.rules.specs.Writes.{count, operation, layers, picture, sourced, afterFrame, afterRegister, next}
+use Rattle.rules.specs.Writes.{count, operation, layers, picture, changed, sourced, afterFrame, afterRegister, next}
 use Rattle.rules.specs.Sequences.{cardAfter, pictureAfter}
 
 -- a frame write with all four lanes, and a register write
@@ -128,9 +128,28 @@ masked = reg 0x0030 0x01 ∷ reg 0x0020 0x01010101 ∷ reg 0x0024 0x02020202 ∷
 abbrev pub LowestFirst : Type 0
 LowestFirst = (shows masked (frame 0 0xF) ≡ replicate 4 1 ++ (replicate 4 2 ++ zeros 56)) × (counts masked (frame 0 0xF) ≡ 8)
 
-computed : (S1 × S2 × S3 × S4 × S5 × S6 × S7 × S8 × S9 × S10 × S11) × Overlap × HeldCopy × SlidFills × LowestFirst
-unfolding cardAfter pictureAfter refusal badLength badSpace badLanes noRegister badMode badRaster offBoundary outside unloaded modeOf frameSpan spansOf spanned effectiveBy count operation layers picture sourced afterFrame afterRegister next resetCard rowAt rowIn table stores byte from before drawn drawnAll counted listed made number result bit
-computed = (((refl, refl), (refl, refl), refl, (refl, refl), refl, (refl, refl), refl, (refl, refl), s9, (refl, refl, refl), refl), refl, refl, (refl, refl, refl, refl), (refl, refl))
+-- how many pixels the last write of a list changes
+abbrev changes : List Write → Write → ℕ
+changes ws w = changed (cardAfter ws (resetCard 0) (zeros 64)) w (pictureAfter ws (resetCard 0) (zeros 64))
+
+-- Ask 4, worked out by hand from the pictures of S1 to S8, S10 and S11: in S8 one pixel of the four enabled changes, in S10 pixel 0 is copied as it was, and what is refused changes none
+abbrev pub Changes : Type 0
+Changes =
+    (changes [] (frame 0 0x44332211) ≡ 4)
+    × (changes [] lanes-5 ≡ 2)
+    × (changed (resetCard 0x80) (frame 0 0) (replicate 64 0xFF) ≡ 4)
+    × (changes stipple (frame 32 0x80000001) ≡ 2)
+    × (changes stipple (frame 36 0x80000001) ≡ 0)
+    × (changes fill (frame 0 0x00020005) ≡ 6)
+    × (changes (blocks 0xFFFFFFFF) (frame 4 3) ≡ 4)
+    × (changes planes (frame 0 0xFFFFFFFF) ≡ 1)
+    × (changed (cardAfter copying (resetCard 0) ramp) (frame 0 0xFFFFFFFF) ramp ≡ 0)
+    × (changed (cardAfter (copying ++ (frame 0 0xFFFFFFFF ∷ [])) (resetCard 0) ramp) (frame 32 0xFFFF) ramp ≡ 15)
+    × (changes [] (reg 0x0164 0) ≡ 0)
+
+computed : (S1 × S2 × S3 × S4 × S5 × S6 × S7 × S8 × S9 × S10 × S11) × Overlap × HeldCopy × SlidFills × LowestFirst × Changes
+unfolding cardAfter pictureAfter refusal badLength badSpace badLanes noRegister badMode badRaster offBoundary outside unloaded modeOf frameSpan spansOf spanned effectiveBy count operation layers picture changed sourced afterFrame afterRegister next resetCard rowAt rowIn table stores byte from before drawn drawnAll changedAll counted differing listed made number result bit
+computed = (((refl, refl), (refl, refl), refl, (refl, refl), refl, (refl, refl), refl, (refl, refl), s9, (refl, refl, refl), refl), refl, refl, (refl, refl, refl, refl), (refl, refl), (refl, refl, refl, refl, refl, refl, refl, refl, refl, refl, refl))
 
 pub samples : S1 × S2 × S3 × S4 × S5 × S6 × S7 × S8 × S9 × S10 × S11
 samples = computed .0
@@ -146,3 +165,6 @@ slid-fills = computed .3
 
 pub lowest-first : LowestFirst
 lowest-first = computed .4
+
+pub changes-samples : Changes
+changes-samples = computed .5

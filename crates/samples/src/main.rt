@@ -59,7 +59,8 @@ fn says(sample: u64, ok: bool) {
     }
 }
 
-// The write answers with that number and that count, and leaves the picture as it should be.
+// The write answers with that number, that count and so many pixels changed, and leaves the picture as it should be. The pixels changed are worked out
+// by hand from the paper's pictures, before and after.
 fn leaves(
     card: Card,
     w: Write,
@@ -67,20 +68,22 @@ fn leaves(
     right: [u8; 64],
     number: u32,
     count: u32,
+    changed: u32,
 ) -> bool {
     let a = engine::write(card, w, &mut vram);
     let same = check::same(&vram, &right);
-    same && a.number == number && a.tally.enabled == count
+    let counted = a.tally.enabled == count && a.tally.changed == changed;
+    same && a.number == number && counted
 }
 
 // An accepted write on 64 zeros.
-fn drawn(card: Card, w: Write, right: [u8; 64], count: u32) -> bool {
-    leaves(card, w, [0u8; 64], right, 0, count)
+fn drawn(card: Card, w: Write, right: [u8; 64], count: u32, changed: u32) -> bool {
+    leaves(card, w, [0u8; 64], right, 0, count, changed)
 }
 
-// A write that is refused so leaves 64 zeros, and counts no pixel.
+// A write that is refused so leaves 64 zeros, and counts no pixel, enabled or changed.
 fn refused(card: Card, w: Write, number: u32) -> bool {
-    leaves(card, w, [0u8; 64], [0u8; 64], number, 0)
+    leaves(card, w, [0u8; 64], [0u8; 64], number, 0, 0)
 }
 
 // The picture with four pixels set, from pixel p on.
@@ -96,7 +99,7 @@ fn four(mut picture: [u8; 64], p: usize, a: u8, b: u8, c: u8, d: u8) -> [u8; 64]
 
 fn s1() -> bool {
     let right = four([0u8; 64], 0, 0x11, 0x22, 0x33, 0x44);
-    drawn(Card::reset(0), frame(0, 0x44332211), right, 4)
+    drawn(Card::reset(0), frame(0, 0x44332211), right, 4, 4)
 }
 
 fn s2() -> bool {
@@ -107,13 +110,13 @@ fn s2() -> bool {
         data: 0x44332211,
     };
     let right = four([0u8; 64], 0, 0x11, 0, 0x33, 0);
-    drawn(Card::reset(0), w, right, 2)
+    drawn(Card::reset(0), w, right, 2, 2)
 }
 
 fn s3() -> bool {
     let ones = [0xFFu8; 64];
     let right = four(ones, 0, 0x80, 0x80, 0x80, 0x80);
-    leaves(Card::reset(0x80), frame(0, 0), ones, right, 0, 4)
+    leaves(Card::reset(0x80), frame(0, 0), ones, right, 0, 4, 4)
 }
 
 fn stipple() -> Card {
@@ -124,7 +127,7 @@ fn stipple() -> Card {
 fn s4() -> bool {
     let first = four([0u8; 64], 32, 0xAA, 0, 0, 0);
     let right = four(first, 60, 0, 0, 0, 0xAA);
-    drawn(stipple(), frame(32, 0x80000001), right, 2)
+    drawn(stipple(), frame(32, 0x80000001), right, 2, 2)
 }
 
 fn s5() -> bool {
@@ -138,7 +141,7 @@ fn s6() -> bool {
     let card = register(card, FILL_MASK, 0xF);
     let first = four([0u8; 64], 0, 0, 0, 1, 1);
     let right = four(first, 4, 2, 2, 2, 2);
-    drawn(card, frame(0, 0x00020005), right, 6)
+    drawn(card, frame(0, 0x00020005), right, 6, 6)
 }
 
 fn s7() -> bool {
@@ -147,13 +150,13 @@ fn s7() -> bool {
     let card = register(card, BLOCK_COLOUR_1, 0x07060504);
     let card = register(card, FILL_MASK, 0xFFFFFFFF);
     let right = four([0u8; 64], 4, 4, 5, 6, 7);
-    drawn(card, frame(4, 3), right, 4)
+    drawn(card, frame(4, 3), right, 4, 4)
 }
 
 fn s8() -> bool {
     let card = register(Card::reset(0), PLANE_MASK, 0x0F);
     let right = four([0u8; 64], 0, 0x0F, 0, 0, 0);
-    drawn(card, frame(0, 0xFFFFFFFF), right, 4)
+    drawn(card, frame(0, 0xFFFFFFFF), right, 4, 1)
 }
 
 fn s9() -> bool {
@@ -306,11 +309,11 @@ fn s10() -> bool {
     if source.number != 0 {
         return false;
     }
-    if source.tally.enabled != 0 {
+    if source.tally.enabled != 0 || source.tally.changed != 0 {
         return false;
     }
     let card = source.card;
-    leaves(card, frame(32, 0xFFFF), vram, COPIED, 0, 16)
+    leaves(card, frame(32, 0xFFFF), vram, COPIED, 0, 16, 15)
 }
 
 fn s11() -> bool {

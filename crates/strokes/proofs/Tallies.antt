@@ -1,13 +1,22 @@
--- Pixels changed, counted by the marks of words: one word, and the four of a pattern. Assumes nothing.
-use mathlib.Core.Path.{_≡_, _∙_}
+-- Pixels changed, counted by the marks of words: one word, and the four of a pattern; and the pattern drawn. `pattern-turn` assumes bytes.
+use mathlib.Core.Path.{_≡_, refl, ap, sym, _∙_}
 use mathlib.Core.Bool.{Bool}
-use Prim.Native.Nat.{ℕ, _+_, _≤_, _<_}
+use mathlib.Core.List.{List}
+use Prim.Native.Nat.{ℕ, _+_, _%_, _≤_, _<_}
+use native.Mathlib.Nat.{add-assoc}
 use native.Mathlib.Omega.{arith}
+use lib.Bits.{bitAnd, bitXor}
+use lib.ListN.{length, getD}
+use lib.Seq.{sets, length-sets}
 use Rattle.raster.specs.Pixel.{value}
-use Rattle.span.specs.Fragments.{listed, counted}
+use Rattle.span.specs.Fragments.{Fragment, byte, listed, counted, differs}
 use Rattle.span.proofs.Counted.{counted-le, value-le}
 use Rattle.words.specs.Words.{joined, added, Marks}
 use Rattle.words.proofs.Joined.{joined-add, added-add, added-counted}
+use Rattle.tables.specs.declared.Table.{Table}
+use Rattle.tables.specs.Reduced.{Makes}
+use Rattle.strokes.specs.Progress.{Further}
+use Rattle.strokes.proofs.Turns.{word-turn, further-as, further-then}
 
 pub marks-small : {f : ℕ → Bool} {w : ℕ} → Marks f w → w ≤ 0x0101010101010101
 unfolding joined listed
@@ -37,7 +46,7 @@ one-word {f} {w} {r} m t =
     (e, omega (arith, e, counted-le 8 f))
 
 -- four words, whose marks are added first
-pub four-words : {f g h i : ℕ → Bool} {a b c d r : ℕ} → Marks f a → Marks g b → Marks h c → Marks i d → Totals (a + b + c + d) r
+four-words : {f g h i : ℕ → Bool} {a b c d r : ℕ} → Marks f a → Marks g b → Marks h c → Marks i d → Totals (a + b + c + d) r
     → (r ≡ counted 8 f + counted 8 g + counted 8 h + counted 8 i) × (r ≤ 32)
 four-words {f} {g} {h} {i} {a} {b} {c} {d} {r} ea eb ec ed t =
     let sum : ℕ → ℕ = λ k. value (f k) + value (g k) + value (h k) + value (i k) in
@@ -70,3 +79,33 @@ four-words {f} {g} {h} {i} {a} {b} {c} {d} {r} ea eb ec ed t =
     in
     let e : r ≡ counted 8 f + counted 8 g + counted 8 h + counted 8 i = t sum joins (omega (arith, adds, few)) ∙ adds in
     (e, omega (arith, few, e))
+
+-- a word drawn by entry g of the table, from pixel j on: what `strokes::word` promises
+abbrev Stored : Table → ℕ → ℕ → List ℕ → ℕ → List ℕ → Type 0
+Stored t g j u m u′ =
+    (u′ ≡ sets u j (listed 8 (λ k. bitXor (bitAnd (getD u (j + k) 0) (byte (getD (t .and) g 0) k)) (byte (getD (t .xor) g 0) k))))
+    × Marks (λ k. differs u u′ (j + k)) m
+
+stored-length : (t : Table) (g j : ℕ) (u : List ℕ) {u′ : List ℕ} {m : ℕ} → Stored t g j u m u′ → length u′ ≡ length u
+stored-length t g j u e = ap length (e .0) ∙ length-sets u j (listed 8 (λ k. bitXor (bitAnd (getD u (j + k) 0) (byte (getD (t .and) g 0) k)) (byte (getD (t .xor) g 0) k)))
+
+-- the four words of a pattern, drawn one after the other, and their marks added up
+module _ (t : Table) (at : ℕ) (u v w x : List ℕ) {y : List ℕ} {a b c d r : ℕ} (first : Stored t 0 at u a v) (second : Stored t 1 (at + 8) v b w)
+    (third : Stored t 2 (at + 16) w c x) (fourth : Stored t 3 (at + 24) x d y) (sums : Totals (a + b + c + d) r) where
+  pub pattern-few : r ≤ 32
+  pattern-few = four-words (first .1) (second .1) (third .1) (fourth .1) sums .1
+
+  pub pattern-turn : ((i : ℕ) → getD u i 0 < 256) → ((i : ℕ) → getD v i 0 < 256) → ((i : ℕ) → getD w i 0 < 256) → ((i : ℕ) → getD x i 0 < 256)
+      → at + 32 ≤ length u → at % 32 ≡ 0 → (op : ℕ) (f : ℕ → Fragment) → Makes t op f → Further op f at (at + 32) u r y
+  pattern-turn bu bv bw bx l e op f m =
+      let lv : length v ≡ length u = stored-length t 0 at u first in
+      let lw : length w ≡ length v = stored-length t 1 (at + 8) v second in
+      let lx : length x ≡ length w = stored-length t 2 (at + 16) w third in
+      let one = word-turn op f t m at 0 u (omega arith) (omega arith) (first .0) bu (omega arith) in
+      let two = word-turn op f t m (at + 8) 1 v (omega arith) (omega arith) (second .0) bv (omega arith) in
+      let three = word-turn op f t m (at + 16) 2 w (omega arith) (omega arith) (third .0) bw (omega arith) in
+      let four = word-turn op f t m (at + 24) 3 x (omega arith) (omega arith) (fourth .0) bx (omega arith) in
+      further-as
+      (further-then (further-then (further-then one (further-as two refl (add-assoc at 8 8) refl)) (further-as three refl (add-assoc at 16 8) refl))
+      (further-as four refl (add-assoc at 24 8) refl))
+      refl refl (sym (four-words (first .1) (second .1) (third .1) (fourth .1) sums .0))

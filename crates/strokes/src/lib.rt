@@ -168,6 +168,18 @@ pub fn draw_at(vram: &mut [u8], first: usize, s: Strokes) -> Tally
 
 // ---- Text.
 
+// The pattern once, from the first pixel on. It is not `pattern`: a function with two callers is handed the table in memory by each (docs/PROOFS.md).
+fn once(part: &mut [u8], t: Table) -> u32
+    requires { ⌜ 32 ≤ length (now part) ⌝ }
+    ensures { λ r. ⌜ ((op : ℕ) (f : ℕ → Fragment) → Makes t op f → Further op f 0 32 (now (part .entry)) r (now (part .exit))) ⌝ }
+{
+    let a = word(part, 0, t.and[0], t.xor[0]);
+    let b = word(part, 8, t.and[1], t.xor[1]);
+    let c = word(part, 16, t.and[2], t.xor[2]);
+    let d = word(part, 24, t.and[3], t.xor[3]);
+    words::total(a + b + c + d)
+}
+
 // The shorter way of 32 pixels under operation 3, whatever operation and width the strokes have: a table with nothing to choose, the pattern once, no loop.
 // Nothing where they do not all lie inside. It answers how many changed.
 pub fn text_at(vram: &mut [u8], address: u32, s: Strokes) -> u32
@@ -180,5 +192,5 @@ pub fn text_at(vram: &mut [u8], address: u32, s: Strokes) -> u32
         return 0;
     }
     let t = tables::copied(s);
-    pattern(&mut vram[first..], 0, t)
+    once(&mut vram[first..], t)
 }

@@ -1,10 +1,11 @@
--- Which bytes are not the same, marked by a one, and the bytes of a word added up. `one` assumes bytes, `marked` words of eight, `totalled` a sum of one byte.
+-- Which bytes are not the same, marked by a one, and the bytes of a word added up. `marked` assumes words of eight bytes, `totalled` a sum of one byte.
 use mathlib.Core.Path.{_≡_, refl, ap, sym, _∙_}
 use mathlib.Core.Bool.{Bool, not}
+use mathlib.Core.Logic.{_⊎_, inl, inr, ⊎-elim}
 use Prim.Native.Nat.{ℕ, _+_, _*_, _/_, _%_, _^_, _<_}
 use native.Mathlib.Decide.{ℕ-discrete}
 use native.Mathlib.Omega.{arith}
-use lib.Bits.{bitAnd, bitOr, bitXor, and-le-l, and-le-r, xor-lt, xor-self, xor-add-and}
+use lib.Bits.{bitAnd, bitOr, bitXor, and-le-l, and-le-r, xor-self, xor-add-and}
 use lib.Dec.{eqb, eqb→eq}
 use borrow.Author.Tests.{eq-eqb, ne-eqb}
 use Rattle.raster.specs.Pixel.{value}
@@ -19,15 +20,13 @@ use Rattle.words.proofs.Joined.{byte-joined, joined-bytes, joined-add, 
 xor-none : (a b : ℕ) → bitXor a b ≡ 0 → b ≡ a
 xor-none a b z = omega (arith, xor-add-and a b, and-le-l a b, and-le-r a b)
 
--- one byte
-pub one : (a b : ℕ) → a < 256 → b < 256 → (bitXor a b + 255) / 256 ≡ value (not (eqb b a))
-one a b ha hb = go (ℕ-discrete b a)
+-- so it tells whether they are the same
+pub told : (a b : ℕ) → ((bitXor a b ≡ 0) × (value (not (eqb b a)) ≡ 0)) ⊎ ((0 < bitXor a b) × (value (not (eqb b a)) ≡ 1))
+told a b = go (ℕ-discrete b a)
   where
-    go : Dec (b ≡ a) → (bitXor a b + 255) / 256 ≡ value (not (eqb b a))
-    go (yes e) = rw (e, xor-self a, eq-eqb a a refl)
-    go (no e) =
-        let some : bitXor a b ≡ 0 → ⊥ = λ z. e (xor-none a b z) in
-        rw (ne-eqb b a e) (omega (arith, xor-lt 8 a b ha hb, some))
+    go : Dec (b ≡ a) → ((bitXor a b ≡ 0) × (value (not (eqb b a)) ≡ 0)) ⊎ ((0 < bitXor a b) × (value (not (eqb b a)) ≡ 1))
+    go (yes e) = inl (rw e (xor-self a), rw (eq-eqb b a e))
+    go (no e) = let some : bitXor a b ≡ 0 → ⊥ = λ z. e (xor-none a b z) in inr (omega arith, rw (ne-eqb b a e))
 
 -- bits 6:0 of each of eight bytes, and bit 7
 abbrev lows : ℕ
@@ -87,12 +86,8 @@ marked a b ha hb =
         ∙ (byte-joined 8 (λ j. byte (bitAnd x lows) j + 127) (λ j l. omega (arith, low j l, and-le-r (byte x j) 127)) k h
         ∙ ap (λ (n : ℕ). n + 127) (low k h))
 
-    same : (m n : ℕ) → eqb (bitXor m n) 0 ≡ eqb n m
-    same m n = go (ℕ-discrete n m)
-      where
-        go : Dec (n ≡ m) → eqb (bitXor m n) 0 ≡ eqb n m
-        go (yes e) = rw (e, xor-self m, eq-eqb m m refl)
-        go (no e) = ne-eqb (bitXor m n) 0 (λ z. e (xor-none m n z)) ∙ sym (ne-eqb n m e)
+    same : (m n : ℕ) → value (not (eqb (bitXor m n) 0)) ≡ value (not (eqb n m))
+    same m n = ⊎-elim (λ h. rw (h .0) (sym (h .1))) (λ h. rw (ne-eqb (bitXor m n) 0 (λ z. omega (arith, h .0))) (sym (h .1))) (told m n)
 
     each : (k : ℕ) → k < 8 → byte y k ≡ 128 * value (not (eqb (byte b k) (byte a k)))
     each k h =
@@ -100,7 +95,7 @@ marked a b ha hb =
         ∙ (ap (λ (n : ℕ). bitAnd (byte (bitOr (bitAnd x lows + lows) x) k) n) (all-alike 128 highs (omega arith) eighth k h)
         ∙ (ap (λ (n : ℕ). bitAnd n 128) (byte-or (bitAnd x lows + lows) x k ∙ ap (λ (n : ℕ). bitOr n (byte x k)) (summed k h))
         ∙ (carried (byte x k) (byte-below x k)
-        ∙ ap (λ (t : Bool). 128 * value (not t)) (ap (λ (n : ℕ). eqb n 0) (byte-xor a b k) ∙ same (byte a k) (byte b k)))))
+        ∙ ap (λ (n : ℕ). 128 * n) (ap (λ (n : ℕ). value (not (eqb n 0))) (byte-xor a b k) ∙ same (byte a k) (byte b k)))))
 
 -- the byte between what lies below it and what lies above
 middle : (low x high : ℕ) → low < 0x1000000 → x < 256 → (low + 0x1000000 * (x + 256 * high)) / 0x1000000 % 0x100 ≡ x

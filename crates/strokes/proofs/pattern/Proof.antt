@@ -1,11 +1,7 @@
 -- `strokes::pattern` meets its contract: four words. Assumes nothing.
-use mathlib.Core.Path.{refl, sym}
-use Prim.Native.Nat.{_+_}
-use denote.Ref.{now}
-use native.Mathlib.Nat.{add-assoc}
 use native.Mathlib.Omega.{arith}
-use Rattle.strokes.proofs.Tallies.{marks-small, four-words}
-use Rattle.strokes.proofs.Turns.{word-turn, further-then, further-as}
+use denote.Ref.{now}
+use Rattle.strokes.proofs.Tallies.{marks-small, pattern-few, pattern-turn}
 use borrow.Author.Needs.{needs}
 use Rattle.strokes.proofs.pattern.Statement.{statement}
 use Rattle.strokes.proofs.pattern.Tie as tie
@@ -74,16 +70,12 @@ returns : tie.Need-returns
 returns c =
     let t = c .before .before .before .before .before .before .before .before .before .before .before .before .before .before .before .before .before .before .before .before .before .before .before .before .before .before .args .t3 in
     let at = c .before .before .before .before .before .before .before .before .before .before .before .before .before .before .before .before .before .before .before .before .before .before .before .before .before .before .args .at in
-    let sum = four-words (c .before .before .before .before .before .before .before .before .before .before .before .before .before .before .before .before .before .before .before .before .before .word .ensures .1) (c .before .before .before .before .before .before .before .before .before .before .before .before .before .before .before .word2 .ensures .1) (c .before .before .before .before .before .before .before .before .before .word3 .ensures .1) (c .before .before .before .word4 .ensures .1) (c .total .ensures) in (
-      sum .1,
-      λ op f m.
-          let one = word-turn op f t m at 0 (now (c .before .before .before .before .before .before .before .before .before .before .before .before .before .before .before .before .before .before .before .before .before .before .before .before .before .before .args .part)) (omega arith) (omega arith) (c .before .before .before .before .before .before .before .before .before .before .before .before .before .before .before .before .before .before .before .before .before .word .ensures .0) (λ i. c .before .before .before .before .before .before .before .before .before .before .before .before .before .before .before .before .before .before .before .before .before .before .before .before .before .slice-known .given i .fits) (omega arith) in
-          let two = word-turn op f t m (at + 8) 1 (c .before .before .before .before .before .before .before .before .before .before .before .before .before .before .before .before .before .before .before .before .before .word .last .0) (omega arith) (omega arith) (c .before .before .before .before .before .before .before .before .before .before .before .before .before .before .before .word2 .ensures .0) (λ i. c .before .before .before .before .before .before .before .before .before .before .before .before .before .before .before .before .before .before .before .slice-known2 .given i .fits) (omega arith) in
-          let three = word-turn op f t m (at + 16) 2 (c .before .before .before .before .before .before .before .before .before .before .before .before .before .before .before .word2 .last .0) (omega arith) (omega arith) (c .before .before .before .before .before .before .before .before .before .word3 .ensures .0) (λ i. c .before .before .before .before .before .before .before .before .before .before .before .before .before .slice-known3 .given i .fits) (omega arith) in
-          let four = word-turn op f t m (at + 24) 3 (c .before .before .before .before .before .before .before .before .before .word3 .last .0) (omega arith) (omega arith) (c .before .before .before .word4 .ensures .0) (λ i. c .before .before .before .before .before .before .before .slice-known4 .given i .fits) (omega arith) in
-          further-as
-          (further-then (further-then (further-then one (further-as two refl (add-assoc at 8 8) refl)) (further-as three refl (add-assoc at 16 8) refl)) (further-as four refl (add-assoc at 24 8) refl))
-          refl refl (sym (sum .0)),
+    let one = c .before .before .before .before .before .before .before .before .before .before .before .before .before .before .before .before .before .before .before .before .before .word .ensures in
+    let two = c .before .before .before .before .before .before .before .before .before .before .before .before .before .before .before .word2 .ensures in
+    let three = c .before .before .before .before .before .before .before .before .before .word3 .ensures in
+    let four = c .before .before .before .word4 .ensures in (
+      pattern-few t at (now (c .before .before .before .before .before .before .before .before .before .before .before .before .before .before .before .before .before .before .before .before .before .before .before .before .before .before .args .part)) (c .before .before .before .before .before .before .before .before .before .before .before .before .before .before .before .before .before .before .before .before .before .word .last .0) (c .before .before .before .before .before .before .before .before .before .before .before .before .before .before .before .word2 .last .0) (c .before .before .before .before .before .before .before .before .before .word3 .last .0) one two three four (c .total .ensures),
+      pattern-turn t at (now (c .before .before .before .before .before .before .before .before .before .before .before .before .before .before .before .before .before .before .before .before .before .before .before .before .before .before .args .part)) (c .before .before .before .before .before .before .before .before .before .before .before .before .before .before .before .before .before .before .before .before .before .word .last .0) (c .before .before .before .before .before .before .before .before .before .before .before .before .before .before .before .word2 .last .0) (c .before .before .before .before .before .before .before .before .before .word3 .last .0) one two three four (c .total .ensures) (λ i. c .before .before .before .before .before .before .before .before .before .before .before .before .before .before .before .before .before .before .before .before .before .before .before .before .before .slice-known .given i .fits) (λ i. c .before .before .before .before .before .before .before .before .before .before .before .before .before .before .before .before .before .before .before .slice-known2 .given i .fits) (λ i. c .before .before .before .before .before .before .before .before .before .before .before .before .before .slice-known3 .given i .fits) (λ i. c .before .before .before .before .before .before .before .slice-known4 .given i .fits) (omega arith) (omega arith),
     )
 
 pub pattern-spec : {M : Type 1} → statement M

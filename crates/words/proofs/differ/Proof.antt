@@ -1,10 +1,8 @@
 -- `words::differ` meets its contract. Assumes nothing.
-use mathlib.Core.Bool.{not}
+use mathlib.Core.Logic.{⊎-elim}
 use native.Mathlib.Omega.{arith}
 use lib.Bits.{xor-lt}
-use lib.Dec.{eqb}
-use Rattle.span.proofs.Counted.{value-le}
-use Rattle.words.proofs.Marks.{one}
+use Rattle.words.proofs.Marks.{told}
 use Rattle.words.proofs.differ.Statement.{statement}
 use Rattle.words.proofs.differ.Tie as tie
 
@@ -16,7 +14,8 @@ add-result c = omega (arith, xor-lt 8 (c .args .a) (c .args .b) (omega arith) (o
 
 returns : tie.Need-returns
 returns c =
-    let e = one (c .args .a) (c .args .b) (omega arith) (omega arith) in (e, omega (arith, e, value-le (not (eqb (c .args .b) (c .args .a)))))
+    let small = xor-lt 8 (c .args .a) (c .args .b) (omega arith) (omega arith) in
+    ⊎-elim (λ h. (omega (arith, h), omega (arith, h))) (λ h. (omega (arith, h, small), omega (arith, h, small))) (told (c .args .a) (c .args .b))
 
 pub differ-spec : {M : Type 1} → statement M
 differ-spec = tie.close (tie.spec cast-result add-result returns)
