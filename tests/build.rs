@@ -10,8 +10,8 @@ fn main() {
     if let Some(folder) = link("CARGO_FEATURE_OTHER", "ZEVKHOLTAI_OTHER", "other") {
         let header = format!("{folder}/zevkholtai.h");
         println!("cargo:rerun-if-changed={header}");
-        let words = fs::read_to_string(&header).unwrap_or_else(|why| panic!("{header}: {why}"));
-        if !words.contains("uint32_t changed;") {
+        let text = fs::read_to_string(&header).unwrap_or_else(|why| panic!("{header}: {why}"));
+        if !text.contains("uint32_t changed;") {
             println!("cargo:rustc-cfg=other_without_changed");
         }
     }

@@ -140,7 +140,7 @@ impl Coverage {
     }
 
     /// Each situation, with how often it must be met and was.
-    fn situations(&self) -> impl Iterator<Item = (&str, u64, u64)> {
+    fn all_situations(&self) -> impl Iterator<Item = (&str, u64, u64)> {
         let of_writes = SITUATIONS.iter().zip(self.situations);
         of_writes
             .map(|(&(name, least), count)| (name, least, count))
@@ -160,7 +160,7 @@ impl Coverage {
             println!("{:<26}{cells}", row_name(row));
         }
         println!("{:<26}{:>8}", "all writes", self.all_writes());
-        for (name, _, count) in self.situations() {
+        for (name, _, count) in self.all_situations() {
             println!("{name}: {count}");
         }
     }
@@ -182,7 +182,7 @@ impl Coverage {
                 missing.push(format!("{}, refused", row_name(row)));
             }
         }
-        for (name, least, count) in self.situations() {
+        for (name, least, count) in self.all_situations() {
             if count < least {
                 missing.push(format!("{name}, {count} of {least}"));
             }

@@ -1,8 +1,8 @@
 -- Why demand 3's draws are alike in number and count and not in the pixels changed: four pixels, drawn twice with operation 3. Assumes nothing.
 use mathlib.Core.Path.{_≡_, refl}
-use lib.ListN.{replicate}
 use mathlib.Core.List.{List}
 use Prim.Native.Nat.{ℕ}
+use lib.ListN.{length, replicate}
 use Rattle.raster.specs.Pixel.{bit, number, result, made}
 use Rattle.span.specs.Fragments.{byte, from, before, drawn, counted, differing}
 use Rattle.span.specs.Layers.{drawnAll, changedAll}
@@ -27,7 +27,7 @@ screen = replicate 64 0
 
 -- both draws enable four pixels; the first changes four, the second none
 pub record NotAlike : Type 0 where
-  pub enabled : (count card draw 64 ≡ 4) × (count card draw 64 ≡ 4)
+  pub enabled : (count card draw (length screen) ≡ 4) × (count card draw (length (drawnWith 3 (resetCard 0) draw screen)) ≡ 4)
   pub first : changed card draw screen ≡ 4
   pub second : changed card draw (drawnWith 3 (resetCard 0) draw screen) ≡ 0
 

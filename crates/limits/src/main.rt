@@ -19,7 +19,7 @@ fn register(card: Card, offset: u32, data: u32) -> Card {
     a.card
 }
 
-// What a frame write answers: number and count on a line of their own.
+// Of what a frame write answers, number and count, on a line of their own.
 fn says(what: &[u8], card: Card, address: u32, data: u32, vram: &mut [u8]) {
     let w = Write {
         space: 0,

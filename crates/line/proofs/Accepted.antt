@@ -1,4 +1,4 @@
--- What the bytes give, and `check`: for bytes that `check` accepts, number, card, VRAM, entries and pixels after all chunks and the end
+-- What the bytes give, and `check`: for bytes that `check` accepts, number, card, VRAM, entries, pixels and pixels changed after all chunks and the end
 -- call are those of one whole run; for bytes that it refuses, the number after the end call is not 0. Assumes nothing.
 use mathlib.Core.Path.{_≡_, refl, ap, sym, _∙_}
 use mathlib.Core.Bool.{Bool, true, false, true≢false, cond}

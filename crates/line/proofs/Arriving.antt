@@ -1,4 +1,4 @@
--- From a new reader, however the bytes are cut into chunks, the number, the entries applied, the total pixels, the card and the picture
+-- From a new reader, however the bytes are cut into chunks, the number, the entries applied, the total pixels, those changed, the card and the picture
 -- after the end call are those of `Arrival.arrives`; 1 where VRAM has a forbidden length. Assumes nothing.
 use mathlib.Core.Path.{_≡_, refl, ap, sym, _∙_}
 use mathlib.Core.Bool.{Bool, true, false, cond}

@@ -131,7 +131,7 @@ unfoldable pub reads : List ℕ → Standing → Standing
 reads [] s = s
 reads (b ∷ bs) s = reads bs (byte s b)
 
--- a reader that can be: fewer bytes wait than are awaited, and its totals are those of so many entries, of at most 2,048 pixels each, some of them changed.
+-- a reader that can be: fewer bytes wait than are awaited, and its totals are those of so many entries, of at most 2,048 pixels each, and no more changed than counted.
 -- One put together by hand need not be such
 unfoldable pub sound : Reader → Bool
 sound r =

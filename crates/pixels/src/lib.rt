@@ -1,10 +1,9 @@
 // The rule of one pixel, which is one byte here, for eight pixels at once: a word of 64 bits has eight.
 ghost use mathlib.Core.Path.{_≡_};
-ghost use mathlib.Core.Bool.{not};
 ghost use Prim.Native.Nat.{_-_, _^_};
 ghost use lib.Bits.{bitXor};
-ghost use lib.Dec.{eqb};
 ghost use Rattle.raster.specs.Pixel.{bit, number, made};
+ghost use Rattle.span.specs.Fragments.{paint, alters};
 
 // A raster operation reduced, as X servers call it, to one source word and one mask: an old word becomes (old & and) ^ xor.
 pub struct Reduced {
@@ -45,7 +44,7 @@ pub struct Made {
 
 // One pixel. Of the operation only bits 3:0 count, as in the raster-operation register.
 pub fn make(op: u8, mask: u8, source: u8, old: u8) -> Made
-    ensures { λ r. ⌜ (r .byte ≡ made 8 op mask source old) × (r .changed ≡ not (eqb (made 8 op mask source old) old)) ⌝ }
+    ensures { λ r. ⌜ (r .byte ≡ made 8 op mask source old) × (r .changed ≡ alters op (paint mask source) old) ⌝ }
 {
     let r = reduce(op, mask as u64, source as u64);
     let byte = (((old as u64 & r.and) ^ r.xor) % 256) as u8;

@@ -132,7 +132,7 @@ LowestFirst = (shows masked (frame 0 0xF) ≡ replicate 4 1 ++ (replicate 4 2 ++
 abbrev changes : List Write → Write → ℕ
 changes ws w = changed (cardAfter ws (resetCard 0) (zeros 64)) w (pictureAfter ws (resetCard 0) (zeros 64))
 
--- Ask 4, worked out by hand from the pictures of S1 to S8, S10 and S11: in S8 one pixel of the four enabled changes, in S10 pixel 0 is copied as it was, and what is refused changes none
+-- Ask 4, worked out by hand from the pictures of S1 to S8, S10 and S11: in S8 one pixel of the four enabled changes, in S10 pixel 32 takes the 0 that it has, and what is refused changes none
 abbrev pub Changes : Type 0
 Changes =
     (changes [] (frame 0 0x44332211) ≡ 4)

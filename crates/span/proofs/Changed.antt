@@ -13,8 +13,8 @@ use borrow.Author.Tests.{eq-eqb, ne-eqb}
 use Rattle.raster.specs.Pixel.{bit, value, result, made}
 use Rattle.raster.proofs.Bits.{same-bits}
 use Rattle.raster.proofs.Made.{made-bit, made-below}
-use Rattle.span.specs.Fragments.{Fragment, stays, paint, painted, alters, drawn, before, from, counted, differs, differing, Bytes}
-use Rattle.span.specs.Layers.{drawnAll, changedAll, Each, Apart, summed}
+use Rattle.span.specs.Fragments.{Fragment, stays, paint, alters, drawn, before, from, counted, differs, differing, Bytes}
+use Rattle.span.specs.Layers.{drawnAll, changedAll, Apart, summed}
 use Rattle.span.specs.Spans.{Span, pixel, spanned, enabledIn}
 use Rattle.span.proofs.Counted.{counted-same, counted-none, counted-zero, counted-append, counted-within, counted-sum, value-le}
 use Rattle.span.proofs.Drawn.{drawn-at, drawn-length, drawn-kept, drawn-five, drawn-op, drawn-bytes}

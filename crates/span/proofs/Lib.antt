@@ -7,4 +7,5 @@ pub mod Counted
 pub mod Listed
 pub mod Spans
 pub mod Changed
+pub mod ChangedSample
 pub mod Patterns

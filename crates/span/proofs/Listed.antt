@@ -10,12 +10,12 @@ use lib.ListN.{length, getD, take, drop, set, length-drop}
 use lib.Seq.{ext-getD, length-take-le, getD-take, getD-drop}
 use Rattle.span.specs.Fragments.{listed}
 
-listed-length : (n : ℕ) (f : ℕ → ℕ) → length (listed n f) ≡ n
+pub listed-length : (n : ℕ) (f : ℕ → ℕ) → length (listed n f) ≡ n
 unfolding listed
 listed-length zero f = refl
 listed-length (suc n) f = ap suc (listed-length n (λ k. f (suc k)))
 
-listed-at : (n : ℕ) (f : ℕ → ℕ) (i : ℕ) → i < n → getD (listed n f) i 0 ≡ f i
+pub listed-at : (n : ℕ) (f : ℕ → ℕ) (i : ℕ) → i < n → getD (listed n f) i 0 ≡ f i
 unfolding listed
 listed-at zero f i h = absurd (not-suc-le-zero h)
 listed-at (suc n) f zero h = refl

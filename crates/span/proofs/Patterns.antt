@@ -1,7 +1,7 @@
 -- Four words of eight pixels as a pattern of 32, which repeats. Assumes nothing.
-use mathlib.Core.Path.{_≡_, refl, ap, _∙_}
+use mathlib.Core.Path.{_≡_, refl, ap, ap₂, _∙_}
 use mathlib.Core.Bool.{cond}
-use mathlib.Core.List.{[], _∷_}
+use mathlib.Core.List.{List, [], _∷_}
 use Prim.Native.Nat.{ℕ, zero, suc, _+_, _*_, _/_, _%_, _<_}
 use native.Mathlib.Omega.{arith}
 use lib.ListN.{getD}
@@ -29,6 +29,13 @@ pub pattern-at : (f : ℕ → ℕ) (a b c d : ℕ) → Holds f 0 a → Holds f 1
 pattern-at f a b c d pa pb pc pd j =
     let e : 8 * (j / 8 % 4) + j % 8 ≡ j % 32 = omega arith in
     quarters (Holds f) pa pb pc pd (j / 8 % 4) (omega arith) (j % 8) (omega arith) ∙ ap f e
+
+-- it repeats
+pub pattern-again : (ws : List ℕ) (j : ℕ) → patternByte ws (j % 32) ≡ patternByte ws j
+pattern-again ws j =
+    let m : j % 32 % 8 ≡ j % 8 = omega arith in
+    let g : j % 32 / 8 % 4 ≡ j / 8 % 4 = rw (field j 2 3) (omega arith) in
+    ap₂ (λ (i k : ℕ). byte (getD ws i 0) k) g m
 
 -- the strokes repeat
 pub stroke-again : (s : Strokes) (j : ℕ) → stroke s (j % 32) ≡ stroke s j

@@ -1,14 +1,15 @@
--- A run of bytes stored at once, byte by byte. `sets-inside` and `stored-listed` assume that it lies inside.
-use mathlib.Core.Path.{_≡_, refl, ap, _∙_}
+-- A run of bytes stored at once, byte by byte. `sets-inside` and `stored-listed` assume that it lies inside, `four-stored` room for 32.
+use mathlib.Core.Path.{_≡_, refl, ap, ap₂, _∙_}
 use mathlib.Core.Logic.{_⊎_, inl, inr, ⊎-elim}
 use mathlib.Core.List.{List, _++_}
-use Prim.Native.Nat.{ℕ, zero, suc, _+_, _/_, _%_, _≤_, _<_}
+use Prim.Native.Nat.{ℕ, zero, suc, _+_, _*_, _/_, _%_, _≤_, _<_}
 use native.Mathlib.Nat.{le-of-suc-le-suc, not-suc-le-zero, div-one}
 use native.Mathlib.Omega.{arith}
-use lib.ListN.{length, getD, set, drop, length-set}
+use lib.ListN.{length, getD, set, drop, length-set, List·getD-append}
 use lib.Seq.{sets, getD-set-same, getD-set-other}
 use Rattle.span.specs.Fragments.{listed, byte}
-use Rattle.span.proofs.Listed.{listed-set}
+use Rattle.span.specs.Strokes.{patternByte}
+use Rattle.span.proofs.Listed.{listed-set, listed-none, listed-length, listed-at}
 
 -- eight stores, as the code makes them
 pub put-eight : (v : List ℕ) (a w : ℕ)
@@ -73,3 +74,24 @@ stored-listed (suc m) i f g xs ys l e q =
     ∙ (stored-listed m (i + 1) f (λ k. g (suc k)) xs (set ys i (g 0)) (omega arith) (listed-set i f xs (omega arith) e one)
     (λ k h. let p : i + suc k ≡ i + 1 + k = omega arith in q (suc k) (omega arith) ∙ ap f p)
     ∙ ap (λ (n : ℕ). listed n f ++ drop n xs) end)
+
+-- four words of a pattern stored one after the other, byte by byte
+pub four-stored : (ws xs : List ℕ) {a b c d : List ℕ} → length xs ≡ 32 → a ≡ sets xs 0 (listed 8 (byte (getD ws 0 0)))
+    → b ≡ sets a 8 (listed 8 (byte (getD ws 1 0))) → c ≡ sets b 16 (listed 8 (byte (getD ws 2 0))) → d ≡ sets c 24 (listed 8 (byte (getD ws 3 0)))
+    → (j : ℕ) → j < 32 → getD d j 0 ≡ patternByte ws j
+four-stored ws xs {a} {b} {c} {d} l ea eb ec ed j h =
+    let one = ea ∙ stored-listed 8 0 f (byte (getD ws 0 0)) xs xs (omega arith) (listed-none f xs) (at 0 (omega arith)) in
+    let two = eb ∙ stored-listed 8 8 f (byte (getD ws 1 0)) xs a (omega arith) one (at 1 (omega arith)) in
+    let three = ec ∙ stored-listed 8 16 f (byte (getD ws 2 0)) xs b (omega arith) two (at 2 (omega arith)) in
+    let four = ed ∙ stored-listed 8 24 f (byte (getD ws 3 0)) xs c (omega arith) three (at 3 (omega arith)) in
+    ap (λ (v : List ℕ). getD v j 0) four
+    ∙ (List·getD-append (listed 32 f) (drop 32 xs) 0 j (omega (arith, listed-length 32 f)) ∙ listed-at 32 f j h)
+  where
+    f : ℕ → ℕ
+    f j = patternByte ws j
+
+    at : (g : ℕ) → g < 4 → (k : ℕ) → k < 8 → byte (getD ws g 0) k ≡ f (8 * g + k)
+    at g hg k hk =
+        let d : g ≡ (8 * g + k) / 8 % 4 = omega arith in
+        let m : k ≡ (8 * g + k) % 8 = omega arith in
+        ap₂ (λ (i j : ℕ). byte (getD ws i 0) j) d m

@@ -47,8 +47,8 @@ one-word {f} {w} {r} m t =
 
 -- four words, whose marks are added first
 four-words : {f g h i : ℕ → Bool} {a b c d r : ℕ} → Marks f a → Marks g b → Marks h c → Marks i d → Totals (a + b + c + d) r
-    → (r ≡ counted 8 f + counted 8 g + counted 8 h + counted 8 i) × (r ≤ 32)
-four-words {f} {g} {h} {i} {a} {b} {c} {d} {r} ea eb ec ed t =
+    → r ≡ counted 8 f + counted 8 g + counted 8 h + counted 8 i
+four-words {f} {g} {h} {i} {a} {b} {c} {d} ea eb ec ed t =
     let sum : ℕ → ℕ = λ k. value (f k) + value (g k) + value (h k) + value (i k) in
     let joins : a + b + c + d ≡ joined (listed 8 sum)
     = omega (
@@ -74,11 +74,7 @@ four-words {f} {g} {h} {i} {a} {b} {c} {d} {r} ea eb ec ed t =
       added-counted 8 i,
     )
     in
-    let few : counted 8 f + counted 8 g + counted 8 h + counted 8 i ≤ 32
-    = omega (arith, counted-le 8 f, counted-le 8 g, counted-le 8 h, counted-le 8 i)
-    in
-    let e : r ≡ counted 8 f + counted 8 g + counted 8 h + counted 8 i = t sum joins (omega (arith, adds, few)) ∙ adds in
-    (e, omega (arith, few, e))
+    t sum joins (omega (arith, adds, counted-le 8 f, counted-le 8 g, counted-le 8 h, counted-le 8 i)) ∙ adds
 
 -- a word drawn by entry g of the table, from pixel j on: what `strokes::word` promises
 abbrev Stored : Table → ℕ → ℕ → List ℕ → ℕ → List ℕ → Type 0
@@ -92,9 +88,6 @@ stored-length t g j u e = ap length (e .0) ∙ length-sets u j (listed 8 (λ k. 
 -- the four words of a pattern, drawn one after the other, and their marks added up
 module _ (t : Table) (at : ℕ) (u v w x : List ℕ) {y : List ℕ} {a b c d r : ℕ} (first : Stored t 0 at u a v) (second : Stored t 1 (at + 8) v b w)
     (third : Stored t 2 (at + 16) w c x) (fourth : Stored t 3 (at + 24) x d y) (sums : Totals (a + b + c + d) r) where
-  pub pattern-few : r ≤ 32
-  pattern-few = four-words (first .1) (second .1) (third .1) (fourth .1) sums .1
-
   pub pattern-turn : ((i : ℕ) → getD u i 0 < 256) → ((i : ℕ) → getD v i 0 < 256) → ((i : ℕ) → getD w i 0 < 256) → ((i : ℕ) → getD x i 0 < 256)
       → at + 32 ≤ length u → at % 32 ≡ 0 → (op : ℕ) (f : ℕ → Fragment) → Makes t op f → Further op f at (at + 32) u r y
   pattern-turn bu bv bw bx l e op f m =
@@ -108,4 +101,4 @@ module _ (t : Table) (at : ℕ) (u v w x : List ℕ) {y : List ℕ} {a b c d r :
       further-as
       (further-then (further-then (further-then one (further-as two refl (add-assoc at 8 8) refl)) (further-as three refl (add-assoc at 16 8) refl))
       (further-as four refl (add-assoc at 24 8) refl))
-      refl refl (sym (four-words (first .1) (second .1) (third .1) (fourth .1) sums .0))
+      refl refl (sym (four-words (first .1) (second .1) (third .1) (fourth .1) sums))

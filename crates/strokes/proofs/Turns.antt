@@ -1,5 +1,5 @@
--- Turns of the span routine: a word or a byte is drawn by its entry of the table, and what it changes is counted. `word-byte`, `word-turn` and `byte-turn`
--- assume bytes.
+-- Turns of the span routine: a word or a byte is drawn by its entry of the table, and what it changes is counted. `word-byte`, `word-marks`, `word-turn` and
+-- `byte-turn` assume bytes.
 use mathlib.Core.Path.{_≡_, refl, ap, ap₂, sym, _∙_}
 use mathlib.Core.Bool.{not}
 use mathlib.Core.Logic.{inl, inr}

@@ -1,8 +1,7 @@
-// The span routine: strokes drawn into the lent part of VRAM that starts at the span's first pixel, eight pixels a word. It serves every
-// drawing mode.
+// The span routine: strokes drawn into the lent part of VRAM that starts at the span's first pixel, by patterns of 32 pixels, then by words of
+// eight, then by bytes. It serves every drawing mode.
 ghost use mathlib.Core.Path.{_≡_};
 ghost use mathlib.Core.Bool.{cond};
-ghost use mathlib.Core.List.{List};
 ghost use Prim.Native.Nat.{ℕ, _+_, _*_, _/_, _%_, _^_, _≤_, _<_, min};
 ghost use lib.Bits.{bitAnd, bitXor};
 ghost use lib.Dec.{leb};
@@ -10,8 +9,8 @@ ghost use lib.ListN.{length, getD};
 ghost use lib.Seq.{sets};
 ghost use Rattle.raster.specs.Pixel.{bit};
 ghost use Rattle.span.specs.Fragments.{Fragment, drawn, before, from, counted, differs, differing, byte, listed};
-ghost use Rattle.span.specs.Strokes.{stroke, enabled, Drew};
-ghost use Rattle.words.specs.Words.{Marks};
+ghost use Rattle.span.specs.Strokes.{patternByte, stroke, enabled, Drew};
+ghost use Rattle.words.specs.Words.{joined, added, Marks};
 ghost use Rattle.tables.specs.Reduced.{keeps, flips, Makes};
 ghost use Rattle.strokes.specs.Progress.{altered, Further};
 use span::Strokes;
@@ -22,6 +21,14 @@ pub mod buffer;
 mod memory;
 
 // ---- Pixels drawn.
+
+// The bytes of a word added up, where they are at most 255 in all.
+fn total(w: u64) -> u32
+    ensures { λ r. ⌜ ((f : ℕ → ℕ) → w ≡ joined (listed 8 f) → added (listed 8 f) < 256 → r ≡ added (listed 8 f)) ⌝ }
+{
+    let halves = w % 0x1_0000_0000 + w / 0x1_0000_0000;
+    (halves * 0x0101_0101 / 0x100_0000 % 0x100) as u32
+}
 
 // Eight pixels from `at` on: one load and one store. A byte of the answer is one where the pixel changed, else 0.
 fn word(part: &mut [u8], at: usize, and: u64, xor: u64) -> u64
@@ -36,18 +43,36 @@ fn word(part: &mut [u8], at: usize, and: u64, xor: u64) -> u64
     words::differing(old, new)
 }
 
-// The whole pattern from `at` on, which is a multiple of 32. The compiler draws sixteen pixels at once where the processor can.
+// Four words as 32 bytes.
+fn bytes(words: [u64; 4]) -> [u8; 32]
+    ensures { λ r. ⌜ ((j : ℕ) → j < 32 → getD r j 0 ≡ patternByte words j) ⌝ }
+{
+    let mut all = [0u8; 32];
+    memory::store(&mut all, 0, words[0]);
+    memory::store(&mut all, 8, words[1]);
+    memory::store(&mut all, 16, words[2]);
+    memory::store(&mut all, 24, words[3]);
+    all
+}
+
+// The whole pattern from `at` on, by bytes: with so few the compiler draws, compares and counts sixteen at once, which by words it does not.
 // This and what follows answer how many pixels changed.
-fn pattern(part: &mut [u8], at: usize, t: Table) -> u32
-    requires { ⌜ (at + 32 ≤ length (now part)) × (at % 32 ≡ 0) ⌝ }
-    ensures { λ r. ⌜ (r ≤ 32) × ((op : ℕ) (f : ℕ → Fragment) → Makes t op f
+fn pattern(part: &mut [u8], at: usize, and: [u8; 32], xor: [u8; 32]) -> u32
+    requires { ⌜ at + 32 ≤ length (now part) ⌝ }
+    ensures { λ r. ⌜ (r ≤ 32) × ((op : ℕ) (f : ℕ → Fragment)
+        → ((j : ℕ) → j < 32 → (getD and j 0 ≡ keeps op (f (at + j))) × (getD xor j 0 ≡ flips op (f (at + j))))
         → Further op f at (at + 32) (now (part .entry)) r (now (part .exit))) ⌝ }
 {
-    let a = word(part, at, t.and[0], t.xor[0]);
-    let b = word(part, at + 8, t.and[1], t.xor[1]);
-    let c = word(part, at + 16, t.and[2], t.xor[2]);
-    let d = word(part, at + 24, t.and[3], t.xor[3]);
-    words::total(a + b + c + d)
+    let mut changed: u8 = 0;
+    let mut j: usize = 0;
+    while j < 32 {
+        let old = part[at + j];
+        let new = (old & and[j]) ^ xor[j];
+        part[at + j] = new;
+        changed += words::differ(old, new);
+        j += 1;
+    }
+    changed as u32
 }
 
 // The pattern n times.
@@ -56,10 +81,14 @@ fn by_patterns(part: &mut [u8], n: usize, t: Table) -> u32
     ensures { λ r. ⌜ (r ≤ 32 * n) × ((op : ℕ) (f : ℕ → Fragment) → Makes t op f
         → Further op f 0 (32 * n) (now (part .entry)) r (now (part .exit))) ⌝ }
 {
+    let ands = t.and;
+    let xors = t.xor;
+    let and = bytes(ands);
+    let xor = bytes(xors);
     let mut changed: u32 = 0;
     let mut i = 0;
     while i < n {
-        changed += pattern(part, 32 * i, t);
+        changed += pattern(part, 32 * i, and, xor);
         i += 1;
     }
     changed
@@ -74,7 +103,7 @@ fn by_words(part: &mut [u8], start: usize, n: usize, t: Table) -> u32
     let mut changed: u32 = 0;
     let mut g = start;
     while g < n {
-        changed += words::total(word(part, 8 * g, t.and[g % 4], t.xor[g % 4]));
+        changed += total(word(part, 8 * g, t.and[g % 4], t.xor[g % 4]));
         g += 1;
     }
     changed
@@ -94,7 +123,7 @@ fn by_bytes(part: &mut [u8], start: usize, end: usize, and: u64, xor: u64) -> u3
         let old = part[j];
         let new = (old & ((and >> k) % 0x100) as u8) ^ ((xor >> k) % 0x100) as u8;
         part[j] = new;
-        changed += words::differ(old, new);
+        changed += words::differ(old, new) as u32;
         j += 1;
     }
     changed
@@ -168,7 +197,7 @@ pub fn draw_at(vram: &mut [u8], first: usize, s: Strokes) -> Tally
 
 // ---- Text.
 
-// The pattern once, from the first pixel on. It is not `pattern`: a function with two callers is handed the table in memory by each (docs/PROOFS.md).
+// The pattern once, from the first pixel on, by its words as they are: no byte of the table has to be stored first.
 fn once(part: &mut [u8], t: Table) -> u32
     requires { ⌜ 32 ≤ length (now part) ⌝ }
     ensures { λ r. ⌜ ((op : ℕ) (f : ℕ → Fragment) → Makes t op f → Further op f 0 32 (now (part .entry)) r (now (part .exit))) ⌝ }
@@ -177,7 +206,7 @@ fn once(part: &mut [u8], t: Table) -> u32
     let b = word(part, 8, t.and[1], t.xor[1]);
     let c = word(part, 16, t.and[2], t.xor[2]);
     let d = word(part, 24, t.and[3], t.xor[3]);
-    words::total(a + b + c + d)
+    total(a + b + c + d)
 }
 
 // The shorter way of 32 pixels under operation 3, whatever operation and width the strokes have: a table with nothing to choose, the pattern once, no loop.

@@ -1,7 +1,6 @@
 -- Which bytes are not the same, marked by a one, and the bytes of a word added up. `marked` assumes words of eight bytes, `totalled` a sum of one byte.
 use mathlib.Core.Path.{_≡_, refl, ap, sym, _∙_}
 use mathlib.Core.Bool.{Bool, not}
-use mathlib.Core.Logic.{_⊎_, inl, inr, ⊎-elim}
 use Prim.Native.Nat.{ℕ, _+_, _*_, _/_, _%_, _^_, _<_}
 use native.Mathlib.Decide.{ℕ-discrete}
 use native.Mathlib.Omega.{arith}
@@ -16,17 +15,13 @@ use Rattle.span.proofs.Listed.{listed-same}
 use Rattle.words.specs.Words.{joined, added}
 use Rattle.words.proofs.Joined.{byte-joined, joined-bytes, joined-add, joined-times}
 
--- two numbers whose exclusive-or is 0 are the same
-xor-none : (a b : ℕ) → bitXor a b ≡ 0 → b ≡ a
-xor-none a b z = omega (arith, xor-add-and a b, and-le-l a b, and-le-r a b)
-
--- so it tells whether they are the same
-pub told : (a b : ℕ) → ((bitXor a b ≡ 0) × (value (not (eqb b a)) ≡ 0)) ⊎ ((0 < bitXor a b) × (value (not (eqb b a)) ≡ 1))
-told a b = go (ℕ-discrete b a)
+-- the exclusive-or of two numbers is 0 exactly where they are the same
+xor-same : (a b : ℕ) → eqb (bitXor a b) 0 ≡ eqb b a
+xor-same a b = go (ℕ-discrete b a)
   where
-    go : Dec (b ≡ a) → ((bitXor a b ≡ 0) × (value (not (eqb b a)) ≡ 0)) ⊎ ((0 < bitXor a b) × (value (not (eqb b a)) ≡ 1))
-    go (yes e) = inl (rw e (xor-self a), rw (eq-eqb b a e))
-    go (no e) = let some : bitXor a b ≡ 0 → ⊥ = λ z. e (xor-none a b z) in inr (omega arith, rw (ne-eqb b a e))
+    go : Dec (b ≡ a) → eqb (bitXor a b) 0 ≡ eqb b a
+    go (yes e) = rw (e, xor-self a, eq-eqb a a refl)
+    go (no e) = ne-eqb (bitXor a b) 0 (λ z. e (omega (arith, xor-add-and a b, and-le-l a b, and-le-r a b))) ∙ sym (ne-eqb b a e)
 
 -- bits 6:0 of each of eight bytes, and bit 7
 abbrev lows : ℕ
@@ -86,16 +81,13 @@ marked a b ha hb =
         ∙ (byte-joined 8 (λ j. byte (bitAnd x lows) j + 127) (λ j l. omega (arith, low j l, and-le-r (byte x j) 127)) k h
         ∙ ap (λ (n : ℕ). n + 127) (low k h))
 
-    same : (m n : ℕ) → value (not (eqb (bitXor m n) 0)) ≡ value (not (eqb n m))
-    same m n = ⊎-elim (λ h. rw (h .0) (sym (h .1))) (λ h. rw (ne-eqb (bitXor m n) 0 (λ z. omega (arith, h .0))) (sym (h .1))) (told m n)
-
     each : (k : ℕ) → k < 8 → byte y k ≡ 128 * value (not (eqb (byte b k) (byte a k)))
     each k h =
         byte-and (bitOr (bitAnd x lows + lows) x) highs k
         ∙ (ap (λ (n : ℕ). bitAnd (byte (bitOr (bitAnd x lows + lows) x) k) n) (all-alike 128 highs (omega arith) eighth k h)
         ∙ (ap (λ (n : ℕ). bitAnd n 128) (byte-or (bitAnd x lows + lows) x k ∙ ap (λ (n : ℕ). bitOr n (byte x k)) (summed k h))
         ∙ (carried (byte x k) (byte-below x k)
-        ∙ ap (λ (n : ℕ). 128 * n) (ap (λ (n : ℕ). value (not (eqb n 0))) (byte-xor a b k) ∙ same (byte a k) (byte b k)))))
+        ∙ ap (λ (t : Bool). 128 * value (not t)) (ap (λ (n : ℕ). eqb n 0) (byte-xor a b k) ∙ xor-same (byte a k) (byte b k)))))
 
 -- the byte between what lies below it and what lies above
 middle : (low x high : ℕ) → low < 0x1000000 → x < 256 → (low + 0x1000000 * (x + 256 * high)) / 0x1000000 % 0x100 ≡ x

@@ -6,8 +6,8 @@ ghost use Prim.Native.Nat.{ℕ, _+_, _/_, _%_, _≤_, _<_};
 ghost use lib.Dec.{eqb};
 ghost use lib.ListN.{getD};
 ghost use Rattle.raster.specs.Pixel.{bit, number, value};
-ghost use Rattle.span.specs.Fragments.{byte, listed};
-ghost use Rattle.words.specs.Words.{joined, added, Marks};
+ghost use Rattle.span.specs.Fragments.{byte};
+ghost use Rattle.words.specs.Words.{Marks};
 
 // Two registers as one word, `low` first.
 pub fn pair(low: u32, high: u32) -> u64
@@ -49,11 +49,11 @@ const LOW: u64 = 0x7F7F_7F7F_7F7F_7F7F;
 
 const HIGH: u64 = 0x8080_8080_8080_8080;
 
-// One where two bytes are not the same, else 0.
-pub fn differ(a: u8, b: u8) -> u32
+// One where two bytes are not the same, else 0. The compiler makes it no branch.
+pub fn differ(a: u8, b: u8) -> u8
     ensures { λ r. ⌜ (r ≡ value (not (eqb b a))) × (r ≤ 1) ⌝ }
 {
-    ((a ^ b) as u32 + 0xFF) / 0x100
+    if b == a { 0 } else { 1 }
 }
 
 // The same in each byte of two words. A byte of their exclusive-or has bit 7, or a lower bit, which 7Fh added to bits 6:0 carries there.
@@ -62,12 +62,4 @@ pub fn differing(a: u64, b: u64) -> u64
 {
     let x = a ^ b;
     (((x & LOW) + LOW | x) & HIGH) / 0x80
-}
-
-// The bytes of a word added up, where their sum is one byte.
-pub fn total(w: u64) -> u32
-    ensures { λ r. ⌜ ((f : ℕ → ℕ) → w ≡ joined (listed 8 f) → added (listed 8 f) < 256 → r ≡ added (listed 8 f)) ⌝ }
-{
-    let halves = w % 0x1_0000_0000 + w / 0x1_0000_0000;
-    (halves * 0x0101_0101 / 0x100_0000 % 0x100) as u32
 }

@@ -86,21 +86,15 @@ library!(
     entries::zevkholtai_run
 );
 
-#[derive(Clone, Copy)]
-pub struct Other;
+#[cfg(not(feature = "other"))]
+pub use This as Other;
 
 #[cfg(not(feature = "other"))]
 pub const OTHER: Option<Other> = None;
 
-#[cfg(not(feature = "other"))]
-library!(
-    Other,
-    with_changed,
-    true,
-    entries::zevkholtai_reset,
-    entries::zevkholtai_write,
-    entries::zevkholtai_run
-);
+#[cfg(feature = "other")]
+#[derive(Clone, Copy)]
+pub struct Other;
 
 #[cfg(feature = "other")]
 pub const OTHER: Option<Other> = Some(Other);

@@ -48,6 +48,9 @@ slice-write-part c = omega arith
 differ-requires : tie.Need-differ-requires Inv-loop μ-loop
 differ-requires c κs = tt
 
+cast-changed : tie.Need-cast-changed Inv-loop μ-loop
+cast-changed c = omega (arith, c .differ .ensures .1)
+
 add-changed : tie.Need-add-changed Inv-loop μ-loop
 add-changed c = omega (arith, c .differ .ensures .1)
 
@@ -98,6 +101,7 @@ by-bytes-spec =
     cast-new-2
     slice-write-part
     differ-requires
+    cast-changed
     add-changed
     add-j
     loop-less

@@ -1,105 +1,103 @@
--- `strokes::pattern` meets its contract: four words. Assumes nothing.
+-- `strokes::pattern` meets its contract. The loop's invariant: the first j pixels are drawn. Assumes nothing.
+use mathlib.Core.Path.{_≡_, refl, sym, _∙_}
+use Prim.Native.Nat.{ℕ, _+_, _-_, _≤_, _<_}
 use native.Mathlib.Omega.{arith}
-use denote.Ref.{now}
-use Rattle.strokes.proofs.Tallies.{marks-small, pattern-few, pattern-turn}
-use borrow.Author.Needs.{needs}
+use lib.ListN.{length, getD, length-set}
+use Rattle.span.specs.Fragments.{Fragment}
+use Rattle.tables.specs.Reduced.{keeps, flips}
+use Rattle.strokes.specs.Progress.{Further}
+use Rattle.strokes.proofs.Turns.{byte-turn, further-none, further-as, further-then}
 use Rattle.strokes.proofs.pattern.Statement.{statement}
 use Rattle.strokes.proofs.pattern.Tie as tie
 
-element-copy-out-word : tie.Need-element-copy-out-word
-element-copy-out-word c = search needs
+abbrev Inv-loop : tie.InvT-loop
+Inv-loop part₀ at and xor changed₀ j₀ part changed j =
+    (j ≤ 32) × (length part ≡ length part₀) × (changed ≤ j)
+    × ((op : ℕ) (f : ℕ → Fragment)
+    → ((i : ℕ) → i < 32 → (getD and i 0 ≡ keeps op (f (at + i))) × (getD xor i 0 ≡ flips op (f (at + i))))
+    → Further op f at (at + j) part₀ changed part)
 
-element-copy-out-word-2 : tie.Need-element-copy-out-word-2
-element-copy-out-word-2 c = search needs
+abbrev μ-loop : tie.MeasureT-loop
+μ-loop part₀ at and xor changed₀ j₀ part changed j = 32 - j
 
-word-requires : tie.Need-word-requires
-word-requires c κs = search needs
+loop-holds : tie.Need-loop-holds Inv-loop μ-loop
+loop-holds c = (omega arith, refl, omega arith, λ op f m. further-as (further-none op f _ _) refl (omega arith) refl)
 
-add-word : tie.Need-add-word
-add-word c = search needs
+add-old : tie.Need-add-old Inv-loop μ-loop
+add-old c = omega arith
 
-element-copy-out-word-3 : tie.Need-element-copy-out-word-3
-element-copy-out-word-3 c = search needs
+slice-read-old : tie.Need-slice-read-old Inv-loop μ-loop
+slice-read-old c = omega arith
 
-element-copy-out-word-4 : tie.Need-element-copy-out-word-4
-element-copy-out-word-4 c = search needs
+array-read-new : tie.Need-array-read-new Inv-loop μ-loop
+array-read-new c = omega arith
 
-word-requires-2 : tie.Need-word-requires-2
-word-requires-2 c κs = search needs
+array-read-new-2 : tie.Need-array-read-new-2 Inv-loop μ-loop
+array-read-new-2 c = omega arith
 
-add-word-2 : tie.Need-add-word-2
-add-word-2 c = search needs
+add-part : tie.Need-add-part Inv-loop μ-loop
+add-part c = omega arith
 
-element-copy-out-word-5 : tie.Need-element-copy-out-word-5
-element-copy-out-word-5 c = search needs
+slice-write-part : tie.Need-slice-write-part Inv-loop μ-loop
+slice-write-part c = omega arith
 
-element-copy-out-word-6 : tie.Need-element-copy-out-word-6
-element-copy-out-word-6 c = search needs
+differ-requires : tie.Need-differ-requires Inv-loop μ-loop
+differ-requires c κs = tt
 
-word-requires-3 : tie.Need-word-requires-3
-word-requires-3 c κs = search needs
+add-changed : tie.Need-add-changed Inv-loop μ-loop
+add-changed c = omega (arith, c .differ .ensures .1)
 
-add-word-3 : tie.Need-add-word-3
-add-word-3 c = search needs
+add-j : tie.Need-add-j Inv-loop μ-loop
+add-j c = omega arith
 
-element-copy-out-word-7 : tie.Need-element-copy-out-word-7
-element-copy-out-word-7 c = search needs
+loop-less : tie.Need-loop-less Inv-loop μ-loop
+loop-less c = omega arith
 
-element-copy-out-word-8 : tie.Need-element-copy-out-word-8
-element-copy-out-word-8 c = search needs
-
-word-requires-4 : tie.Need-word-requires-4
-word-requires-4 c κs = search needs
-
-add-total : tie.Need-add-total
-add-total c = omega (arith, marks-small (c .before .before .before .before .before .before .before .before .before .before .before .before .before .before .before .before .before .before .before .before .word .ensures .1), marks-small (c .before .before .before .before .before .before .before .before .before .before .before .before .before .before .word2 .ensures .1))
-
-add-total-2 : tie.Need-add-total-2
-add-total-2 c = omega (arith, marks-small (c .before .before .before .before .before .before .before .before .before .before .before .before .before .before .before .before .before .before .before .before .word .ensures .1), marks-small (c .before .before .before .before .before .before .before .before .before .before .before .before .before .before .word2 .ensures .1), marks-small (c .before .before .before .before .before .before .before .before .word3 .ensures .1))
-
-add-total-3 : tie.Need-add-total-3
-add-total-3 c = omega (arith, marks-small (c .before .before .before .before .before .before .before .before .before .before .before .before .before .before .before .before .before .before .before .before .word .ensures .1), marks-small (c .before .before .before .before .before .before .before .before .before .before .before .before .before .before .word2 .ensures .1), marks-small (c .before .before .before .before .before .before .before .before .word3 .ensures .1), marks-small (c .before .before .word4 .ensures .1))
-
-total-requires : tie.Need-total-requires
-total-requires c κs = search needs
-
-same-length : tie.Need-same-length
-same-length c = search needs
-
-returns : tie.Need-returns
-returns c =
-    let t = c .before .before .before .before .before .before .before .before .before .before .before .before .before .before .before .before .before .before .before .before .before .before .before .before .before .before .args .t3 in
-    let at = c .before .before .before .before .before .before .before .before .before .before .before .before .before .before .before .before .before .before .before .before .before .before .before .before .before .before .args .at in
-    let one = c .before .before .before .before .before .before .before .before .before .before .before .before .before .before .before .before .before .before .before .before .before .word .ensures in
-    let two = c .before .before .before .before .before .before .before .before .before .before .before .before .before .before .before .word2 .ensures in
-    let three = c .before .before .before .before .before .before .before .before .before .word3 .ensures in
-    let four = c .before .before .before .word4 .ensures in (
-      pattern-few t at (now (c .before .before .before .before .before .before .before .before .before .before .before .before .before .before .before .before .before .before .before .before .before .before .before .before .before .before .args .part)) (c .before .before .before .before .before .before .before .before .before .before .before .before .before .before .before .before .before .before .before .before .before .word .last .0) (c .before .before .before .before .before .before .before .before .before .before .before .before .before .before .before .word2 .last .0) (c .before .before .before .before .before .before .before .before .before .word3 .last .0) one two three four (c .total .ensures),
-      pattern-turn t at (now (c .before .before .before .before .before .before .before .before .before .before .before .before .before .before .before .before .before .before .before .before .before .before .before .before .before .before .args .part)) (c .before .before .before .before .before .before .before .before .before .before .before .before .before .before .before .before .before .before .before .before .before .word .last .0) (c .before .before .before .before .before .before .before .before .before .before .before .before .before .before .before .word2 .last .0) (c .before .before .before .before .before .before .before .before .before .word3 .last .0) one two three four (c .total .ensures) (λ i. c .before .before .before .before .before .before .before .before .before .before .before .before .before .before .before .before .before .before .before .before .before .before .before .before .before .slice-known .given i .fits) (λ i. c .before .before .before .before .before .before .before .before .before .before .before .before .before .before .before .before .before .before .before .slice-known2 .given i .fits) (λ i. c .before .before .before .before .before .before .before .before .before .before .before .before .before .slice-known3 .given i .fits) (λ i. c .before .before .before .before .before .before .before .slice-known4 .given i .fits) (omega arith) (omega arith),
+loop-again : tie.Need-loop-again Inv-loop μ-loop
+loop-again c =
+    let l = c .before .before .before .loop in
+    let a = c .before .before .before .before .before .args in
+    let n = c .differ .ensures in
+    let e : a .at + l .j + 1 ≡ a .at + (l .j + 1) = omega arith in (
+      omega arith,
+      simp length-set (l .inv .1),
+      omega (arith, n .1),
+      λ op f m.
+          further-then (l .inv .3 op f m)
+          (further-as
+          (byte-turn op f (a .at + l .j) _ _ (omega arith) (c .before .slice-known2 .given (a .at + l .j) .fits) (m (l .j) (omega arith) .0) (m (l .j) (omega arith) .1))
+          refl e (sym (n .0))),
     )
+
+cast-result : tie.Need-cast-result Inv-loop μ-loop
+cast-result c = omega arith
+
+same-length : tie.Need-same-length Inv-loop μ-loop
+same-length c = c .before .loop .inv .1
+
+returns : tie.Need-returns Inv-loop μ-loop
+returns c =
+    let l = c .before .loop in
+    let e : c .before .before .before .args .at + l .j ≡ c .before .before .before .args .at + 32 = omega arith in (omega arith, λ op f m. further-as (l .inv .3 op f m) refl e refl)
 
 pub pattern-spec : {M : Type 1} → statement M
 pattern-spec =
     tie.close
     (tie.spec
-    element-copy-out-word
-    element-copy-out-word-2
-    word-requires
-    add-word
-    element-copy-out-word-3
-    element-copy-out-word-4
-    word-requires-2
-    add-word-2
-    element-copy-out-word-5
-    element-copy-out-word-6
-    word-requires-3
-    add-word-3
-    element-copy-out-word-7
-    element-copy-out-word-8
-    word-requires-4
-    add-total
-    add-total-2
-    add-total-3
-    total-requires
+    Inv-loop
+    μ-loop
+    loop-holds
+    add-old
+    slice-read-old
+    array-read-new
+    array-read-new-2
+    add-part
+    slice-write-part
+    differ-requires
+    add-changed
+    add-j
+    loop-less
+    loop-again
+    cast-result
     same-length
     returns)

@@ -1,8 +1,8 @@
--- `words::total` meets its contract. Assumes nothing.
+-- `strokes::total` meets its contract. Assumes nothing.
 use borrow.Author.Needs.{needs}
 use Rattle.words.proofs.Marks.{totalled}
-use Rattle.words.proofs.total.Statement.{statement}
-use Rattle.words.proofs.total.Tie as tie
+use Rattle.strokes.proofs.total.Statement.{statement}
+use Rattle.strokes.proofs.total.Tie as tie
 
 add-halves : tie.Need-add-halves
 add-halves c = search needs
