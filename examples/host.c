@@ -26,7 +26,7 @@ static struct zevkholtai_answer draw(uint8_t space, uint32_t address, uint32_t d
     return a;
 }
 
-/* Both halves of the picture. */
+/* Fills both halves of the picture; so many pixels must change. */
 static void fill(uint32_t changed) {
     struct zevkholtai_answer a = draw(FRAME, 0, SIZE / 2 - 1), b = draw(FRAME, SIZE / 2, SIZE / 2 - 1);
     for (int i = 0; i < SIZE; i++) promised(vram[i] == (marks[i] | GREY), "a grey pixel with its held plane");

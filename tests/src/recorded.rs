@@ -5,7 +5,7 @@ use crate::model::{self, Card};
 use std::fs;
 
 /// Name, and the number, the entries applied, the total pixels and those changed. The pixels are not recorded: they are the
-/// model's, counted once and held to ever since, by the model and by the engine.
+/// model's, counted once; model and engine are held to them.
 const RECORDED: [(&str, [u32; 4]); 8] = [
     ("l8-000", [0, 811, 3478, 2094]),
     ("l8-004", [0, 468, 10672, 9995]),
@@ -20,7 +20,7 @@ const RECORDED: [(&str, [u32; 4]); 8] = [
 /// How a checked part is run; the model's run or the engine's.
 pub type Run = fn(&[u8], &mut Card, &mut [u8], u32) -> Ran;
 
-/// Runs every recorded trace whole and compares each byte of its picture.
+/// Runs every recorded trace whole and compares its totals and each byte of its picture.
 pub fn check_all(run: Run) -> Result<usize, String> {
     for (name, answer) in RECORDED {
         check_one(run, name, answer).map_err(|why| format!("recorded trace {name}: {why}"))?;

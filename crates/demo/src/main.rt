@@ -154,7 +154,7 @@ fn hatch(card: Card, x: u8, width: u8, vram: &mut [u8]) {
     }
 }
 
-// An upright line, from row 60 on, and how many pixels the engine says it changed. A fill leaves the card as it is.
+// An upright line, from row 60 on, and how many pixels the engine says it changed, which cannot be so many that they wrap. No one-shot pixel mask is set here, so a fill leaves the card as it is.
 fn upright(card: Card, x: u8, vram: &mut [u8]) -> u32 {
     let mut changed: u32 = 0;
     let mut i: u32 = 0;

@@ -9,7 +9,7 @@ use Rattle.span.specs.Spans.{spanned, enabledIn, piece}
 use Rattle.span.specs.Strokes.{Drew, Draws}
 use Rattle.span.specs.declared.Strokes.{Strokes}
 use Rattle.span.specs.declared.Tally.{Tally}
-use Rattle.span.proofs.Changed.{changed-within}
+use Rattle.span.proofs.Changed.{differing-within}
 use Rattle.span.proofs.Counted.{counted-le}
 use Rattle.span.proofs.Drawn.{drawn-length}
 use Rattle.span.proofs.Spans.{drew, cut-shows, cut-counts, cut-changes}
@@ -42,13 +42,13 @@ module _ (p : Plan) (c : Card) (v : List ℕ) (inside : p .first + p .width ≤ 
     omega (
       arith,
       first .2 ∙ ap (differing v) (first .0),
-      changed-within (p .op) (effective c) (piece 0 32 (planned p c)) v,
+      differing-within (p .op) (effective c) (piece 0 32 (planned p c)) v,
       counted-le 32 (piece 0 32 (planned p c) .on),
     ),
     omega (
       arith,
       second .2 ∙ ap (differing u) (second .0),
-      changed-within (p .op) (effective c) (piece 32 32 (planned p c)) u,
+      differing-within (p .op) (effective c) (piece 32 32 (planned p c)) u,
       counted-le 32 (piece 32 32 (planned p c) .on),
     ),
   )

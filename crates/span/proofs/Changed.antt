@@ -32,7 +32,7 @@ unfolding differing
 differing-none v = counted-none (length v) (differs v v) (λ p h. same-not (getD v p 0))
 
 -- where no pixel differs they are one
-pub differing-zero : (v v′ : List ℕ) → length v′ ≡ length v → differing v v′ ≡ 0 → v′ ≡ v
+differing-zero : (v v′ : List ℕ) → length v′ ≡ length v → differing v v′ ≡ 0 → v′ ≡ v
 unfolding differing
 differing-zero v v′ l e = ext-getD 0 v′ v l (λ i h. go i (omega arith) (ℕ-discrete (getD v′ i 0) (getD v i 0)))
   where
@@ -43,7 +43,7 @@ differing-zero v v′ l e = ext-getD 0 v′ v l (λ i h. go i (omega arith) (ℕ
         absurd (false≢true (sym (counted-zero (length v) (differs v v′) e i h) ∙ n))
 
 -- in two steps, of which at most one changes a pixel
-pub differing-then : (v u w : List ℕ) → length u ≡ length v
+differing-then : (v u w : List ℕ) → length u ≡ length v
     → ((i : ℕ) → i < length v → (getD u i 0 ≡ getD v i 0) ⊎ (getD w i 0 ≡ getD u i 0)) → differing v u + differing u w ≡ differing v w
 unfolding differing
 differing-then v u w l e =
@@ -102,9 +102,9 @@ differing-run op a n f v = differing-drawn op (from a (before n f)) v ∙ go (de
         ∙ omega (arith, counted-append a (k + rest) at, below a (omega arith), counted-append k rest (λ j. at (a + j)), inside, past)
 
 -- a span changes no more pixels than it enables
-pub changed-within : (op : ℕ) (mask : ℕ → ℕ) (s : Span) (v : List ℕ) → differing v (drawn op (spanned mask s) v) ≤ enabledIn s
+pub differing-within : (op : ℕ) (mask : ℕ → ℕ) (s : Span) (v : List ℕ) → differing v (drawn op (spanned mask s) v) ≤ enabledIn s
 unfolding spanned
-changed-within op mask s v =
+differing-within op mask s v =
     let k : ℕ = min (s .width) (length v - s .first) in
     let w : s .width ≡ k + (s .width - k) = omega arith in
     let more : enabledIn s ≡ counted k (s .on) + counted (s .width - k) (λ j. s .on (k + j))
@@ -129,7 +129,7 @@ pub changedAll-within : (op : ℕ) (mask : ℕ → ℕ) (ss : List Span) (v : Li
 unfolding changedAll
 changedAll-within op mask [] v = omega arith
 changedAll-within op mask (s ∷ ss) v =
-    omega (arith, changed-within op mask s v, changedAll-within op mask ss (drawn op (spanned mask s) v))
+    omega (arith, differing-within op mask s v, changedAll-within op mask ss (drawn op (spanned mask s) v))
 
 -- where none is changed the picture stays
 pub changedAll-zero : (op : ℕ) (fs : List (ℕ → Fragment)) (v : List ℕ) → changedAll op fs v ≡ 0 → drawnAll op fs v ≡ v

@@ -1,4 +1,4 @@
--- A run of bytes stored at once, byte by byte. `sets-inside` and `stored-listed` assume that it lies inside, `four-stored` room for 32.
+-- A run of bytes stored at once, byte by byte. `sets-inside` and `stored-listed` assume that it lies inside, `four-stored` a list of 32.
 use mathlib.Core.Path.{_≡_, refl, ap, ap₂, _∙_}
 use mathlib.Core.Logic.{_⊎_, inl, inr, ⊎-elim}
 use mathlib.Core.List.{List, _++_}

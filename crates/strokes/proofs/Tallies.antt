@@ -1,9 +1,8 @@
--- Pixels changed, counted by the marks of words: one word, and the four of a pattern; and the pattern drawn. `pattern-turn` assumes bytes.
+-- Pixels changed, counted by the marks of words: one word, and the four of a pattern; and the pattern drawn. `once-turn` assumes bytes, and room for them.
 use mathlib.Core.Path.{_≡_, refl, ap, sym, _∙_}
 use mathlib.Core.Bool.{Bool}
 use mathlib.Core.List.{List}
-use Prim.Native.Nat.{ℕ, _+_, _%_, _≤_, _<_}
-use native.Mathlib.Nat.{add-assoc}
+use Prim.Native.Nat.{ℕ, _+_, _≤_, _<_}
 use native.Mathlib.Omega.{arith}
 use lib.Bits.{bitAnd, bitXor}
 use lib.ListN.{length, getD}
@@ -85,20 +84,16 @@ Stored t g j u m u′ =
 stored-length : (t : Table) (g j : ℕ) (u : List ℕ) {u′ : List ℕ} {m : ℕ} → Stored t g j u m u′ → length u′ ≡ length u
 stored-length t g j u e = ap length (e .0) ∙ length-sets u j (listed 8 (λ k. bitXor (bitAnd (getD u (j + k) 0) (byte (getD (t .and) g 0) k)) (byte (getD (t .xor) g 0) k)))
 
--- the four words of a pattern, drawn one after the other, and their marks added up
-module _ (t : Table) (at : ℕ) (u v w x : List ℕ) {y : List ℕ} {a b c d r : ℕ} (first : Stored t 0 at u a v) (second : Stored t 1 (at + 8) v b w)
-    (third : Stored t 2 (at + 16) w c x) (fourth : Stored t 3 (at + 24) x d y) (sums : Totals (a + b + c + d) r) where
-  pub pattern-turn : ((i : ℕ) → getD u i 0 < 256) → ((i : ℕ) → getD v i 0 < 256) → ((i : ℕ) → getD w i 0 < 256) → ((i : ℕ) → getD x i 0 < 256)
-      → at + 32 ≤ length u → at % 32 ≡ 0 → (op : ℕ) (f : ℕ → Fragment) → Makes t op f → Further op f at (at + 32) u r y
-  pattern-turn bu bv bw bx l e op f m =
-      let lv : length v ≡ length u = stored-length t 0 at u first in
-      let lw : length w ≡ length v = stored-length t 1 (at + 8) v second in
-      let lx : length x ≡ length w = stored-length t 2 (at + 16) w third in
-      let one = word-turn op f t m at 0 u (omega arith) (omega arith) (first .0) bu (omega arith) in
-      let two = word-turn op f t m (at + 8) 1 v (omega arith) (omega arith) (second .0) bv (omega arith) in
-      let three = word-turn op f t m (at + 16) 2 w (omega arith) (omega arith) (third .0) bw (omega arith) in
-      let four = word-turn op f t m (at + 24) 3 x (omega arith) (omega arith) (fourth .0) bx (omega arith) in
-      further-as
-      (further-then (further-then (further-then one (further-as two refl (add-assoc at 8 8) refl)) (further-as three refl (add-assoc at 16 8) refl))
-      (further-as four refl (add-assoc at 24 8) refl))
-      refl refl (sym (four-words (first .1) (second .1) (third .1) (fourth .1) sums))
+-- the four words of a pattern, drawn one after the other from the first pixel on, and their marks added up
+pub once-turn : (t : Table) (u v w x : List ℕ) {y : List ℕ} {a b c d r : ℕ} → Stored t 0 0 u a v → Stored t 1 8 v b w → Stored t 2 16 w c x → Stored t 3 24 x d y
+    → Totals (a + b + c + d) r → ((i : ℕ) → getD u i 0 < 256) → ((i : ℕ) → getD v i 0 < 256) → ((i : ℕ) → getD w i 0 < 256) → ((i : ℕ) → getD x i 0 < 256)
+    → 32 ≤ length u → (op : ℕ) (f : ℕ → Fragment) → Makes t op f → Further op f 0 32 u r y
+once-turn t u v w x first second third fourth sums bu bv bw bx l op f m =
+    let lv : length v ≡ length u = stored-length t 0 0 u first in
+    let lw : length w ≡ length v = stored-length t 1 8 v second in
+    let lx : length x ≡ length w = stored-length t 2 16 w third in
+    let one = word-turn op f t m 0 0 u refl refl (first .0) bu (omega arith) in
+    let two = word-turn op f t m 8 1 v refl refl (second .0) bv (omega arith) in
+    let three = word-turn op f t m 16 2 w refl refl (third .0) bw (omega arith) in
+    let four = word-turn op f t m 24 3 x refl refl (fourth .0) bx (omega arith) in
+    further-as (further-then (further-then (further-then one two) three) four) refl refl (sym (four-words (first .1) (second .1) (third .1) (fourth .1) sums))

@@ -22,7 +22,7 @@ mod memory;
 
 // ---- Pixels drawn.
 
-// The bytes of a word added up, where they are at most 255 in all.
+// The bytes of a word added up, where they are at most 255 in all. It says nothing of larger sums, so it is private here.
 fn total(w: u64) -> u32
     ensures { λ r. ⌜ ((f : ℕ → ℕ) → w ≡ joined (listed 8 f) → added (listed 8 f) < 256 → r ≡ added (listed 8 f)) ⌝ }
 {
@@ -55,7 +55,7 @@ fn bytes(words: [u64; 4]) -> [u8; 32]
     all
 }
 
-// The whole pattern from `at` on, by bytes: with so few the compiler draws, compares and counts sixteen at once, which by words it does not.
+// The whole pattern from `at` on, by bytes (docs/DECISIONS.md). The sum is a byte, or the compiler would not take sixteen at once.
 // This and what follows answer how many pixels changed.
 fn pattern(part: &mut [u8], at: usize, and: [u8; 32], xor: [u8; 32]) -> u32
     requires { ⌜ at + 32 ≤ length (now part) ⌝ }
@@ -129,7 +129,7 @@ fn by_bytes(part: &mut [u8], start: usize, end: usize, and: u64, xor: u64) -> u3
     changed
 }
 
-// The pixels after the last whole pattern. Where there are none, the table need not stand in memory.
+// The pixels after the last whole pattern. Where there are none, the table's words need not stand in memory beside its bytes.
 fn last(part: &mut [u8], end: usize, t: Table) -> u32
     requires { ⌜ (end ≤ length (now part)) × (end < 2 ^ 32) ⌝ }
     ensures { λ r. ⌜ (r + 32 * (end / 32) ≤ end) × ((op : ℕ) (f : ℕ → Fragment) → Makes t op f

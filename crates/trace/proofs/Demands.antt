@@ -93,7 +93,7 @@ pub record Outcome (part : List ℕ) (b : ℕ) (c : Card) (v : List ℕ) (s : St
   pub within-largest : s .applied ≤ largest
   -- the total never exceeds 8,388,608
   pub total : s .pixels ≤ 8388608
-  -- nor do the pixels changed exceed it
+  -- those changed never exceed the pixels
   pub changes : s .changed ≤ s .pixels
   -- demand 1: picture and card are those of the entries applied
   pub shows : s .picture ≡ pictureAfter (take (s .applied) (writes part)) c v

@@ -1,5 +1,5 @@
--- Sample S12 of the scope paper, with the write of S1: its bytes, and that they are read back. With it S1 to S12 stand together.
--- Assumes nothing.
+-- Sample S12 of the scope paper, with the write of S1: its bytes, and that they are read back. With it S1 to S12 stand together. And a run of two
+-- writes that changes each pixel twice (Ask 4). Assumes nothing.
 use mathlib.Core.Path.{_≡_, refl}
 use mathlib.Core.List.{List, [], _∷_}
 use Prim.Native.Nat.{ℕ}

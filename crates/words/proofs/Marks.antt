@@ -8,7 +8,7 @@ use lib.Bits.{bitAnd, bitOr, bitXor, and-le-l, and-le-r, xor-self, xor-add-and}
 use lib.Dec.{eqb, eqb→eq}
 use borrow.Author.Tests.{eq-eqb, ne-eqb}
 use Rattle.raster.specs.Pixel.{value}
-use Rattle.raster.proofs.Below.{allBelow, all-below}
+use Rattle.raster.proofs.Below.{all-below}
 use Rattle.span.specs.Fragments.{byte, listed}
 use Rattle.span.proofs.Bytes.{byte-below, byte-and, byte-or, byte-xor}
 use Rattle.span.proofs.Listed.{listed-same}

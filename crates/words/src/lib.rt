@@ -9,6 +9,11 @@ ghost use Rattle.raster.specs.Pixel.{bit, number, value};
 ghost use Rattle.span.specs.Fragments.{byte};
 ghost use Rattle.words.specs.Words.{Marks};
 
+// Bits 6:0 of each byte, and bit 7.
+const LOW: u64 = 0x7F7F_7F7F_7F7F_7F7F;
+
+const HIGH: u64 = 0x8080_8080_8080_8080;
+
 // Two registers as one word, `low` first.
 pub fn pair(low: u32, high: u32) -> u64
     ensures { λ r. ⌜ ((k : ℕ) → k < 8 → byte r k ≡ byte (getD (low ∷ high ∷ []) (k / 4) 0) (k % 4)) ⌝ }
@@ -32,7 +37,7 @@ pub fn widen(bits: u8) -> u64
     ensures { λ r. ⌜ ((k : ℕ) → k < 8 → byte r k ≡ cond (bit bits k) 255 0) ⌝ }
 {
     let apart = bits as u64 * 0x0101_0101_0101_0101 & 0x8040_2010_0804_0201;
-    ((apart + 0x7F7F_7F7F_7F7F_7F7F) / 0x80 & 0x0101_0101_0101_0101) * 0xFF
+    ((apart + LOW) / 0x80 & 0x0101_0101_0101_0101) * 0xFF
 }
 
 // Each bit of a where c has a one, else of b.
@@ -43,11 +48,6 @@ pub fn select(c: u64, a: u64, b: u64) -> u64
 }
 
 // ---- Pixels that are not the same.
-
-// Bits 6:0 of each byte, and bit 7.
-const LOW: u64 = 0x7F7F_7F7F_7F7F_7F7F;
-
-const HIGH: u64 = 0x8080_8080_8080_8080;
 
 // One where two bytes are not the same, else 0. The compiler makes it no branch.
 pub fn differ(a: u8, b: u8) -> u8

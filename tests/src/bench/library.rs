@@ -101,7 +101,7 @@ pub const OTHER: Option<Other> = Some(Other);
 
 /// Before Ask 4 answers were shorter.
 #[cfg(all(feature = "other", other_without_changed))]
-mod answers {
+mod without_changed {
     use crate::model;
 
     #[repr(C)]
@@ -137,6 +137,9 @@ mod answers {
 
 #[cfg(all(feature = "other", not(other_without_changed)))]
 use with_changed as answers;
+
+#[cfg(all(feature = "other", other_without_changed))]
+use without_changed as answers;
 
 #[cfg(feature = "other")]
 extern "C" {

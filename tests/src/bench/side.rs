@@ -18,7 +18,7 @@ pub const NONE: Answer = Answer {
 };
 
 /// With one write more: number 0 if all were accepted, and the pixels of all.
-pub fn with(so_far: Answer, answer: Answer) -> Answer {
+pub fn added(so_far: Answer, answer: Answer) -> Answer {
     Answer {
         number: so_far.number | answer.number,
         pixels: so_far.pixels + answer.pixels,
@@ -38,7 +38,7 @@ impl<F: FnMut(&mut [u8], Write) -> Answer> Side<F> {
     pub fn pass(&mut self, writes: &[Write]) -> Answer {
         let mut all = NONE;
         for &write in black_box(writes) {
-            all = with(all, (self.write)(&mut self.vram, write));
+            all = added(all, (self.write)(&mut self.vram, write));
         }
         all
     }
@@ -68,6 +68,7 @@ impl<F: FnMut(&mut [u8], Write) -> Answer> Side<F> {
     }
 }
 
+/// The same answer; the pixels changed are compared where they are `counted`.
 pub fn same_answer(all: Answer, wanted: Answer, counted: bool) -> bool {
     let changed = if counted { all.changed } else { wanted.changed };
     Answer { changed, ..all } == wanted

@@ -2,7 +2,7 @@
 
 use super::library::{self, Library, Other, This, OTHER};
 use super::rows::{Row, VRAM};
-use super::side::{same_answer, with, NONE};
+use super::side::{added, same_answer, NONE};
 use super::timing::{timed, Times};
 use crate::damage;
 use crate::engine::card::Card;
@@ -104,5 +104,5 @@ fn written(writes: &[Write], vram: &mut [u8]) -> Answer {
     let answers = writes
         .iter()
         .map(|&write| fast::write(&mut card, vram, write));
-    answers.fold(NONE, with)
+    answers.fold(NONE, added)
 }
