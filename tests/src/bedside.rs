@@ -1,6 +1,8 @@
-//! The sample trace: the bedside screen of the demonstration program, 256 by 256 pixels, with the caliper left on.
+//! The sample trace: the bedside screen of the demonstration program, 256 by 256 pixels, with a heartbeat of lines and the caliper left
+//! on.
 //! One card draws it from reset, so plane masks stand for the planes that the demonstration's two cards hold.
 
+use crate::lines::{self, Point, Rest, Screen};
 use crate::listed::mode;
 use crate::model::trace::{self, ENTRY, HEADER, MOST_ENTRIES};
 use crate::model::{self, Write, FRAME, REGISTER};
@@ -15,73 +17,40 @@ const MODE: u32 = 0x0030;
 const RASTER_OPERATION: u32 = 0x0034;
 const FILL_MASK: u32 = 0x0080;
 
-/// One beat: for each of 64 columns the top row and the number of rows.
-const BEAT: [(u32, u32); 64] = [
-    (170, 2),
-    (170, 2),
-    (170, 2),
-    (170, 2),
-    (170, 2),
-    (170, 2),
-    (170, 2),
-    (169, 3),
-    (167, 4),
-    (165, 4),
-    (163, 4),
-    (162, 3),
-    (162, 3),
-    (163, 4),
-    (165, 4),
-    (167, 4),
-    (169, 3),
-    (170, 2),
-    (170, 2),
-    (170, 4),
-    (172, 8),
-    (170, 10),
-    (138, 34),
-    (96, 44),
-    (96, 44),
-    (138, 37),
-    (173, 15),
-    (176, 12),
-    (170, 8),
-    (170, 2),
-    (170, 2),
-    (169, 3),
-    (169, 2),
-    (167, 4),
-    (165, 4),
-    (163, 4),
-    (160, 5),
-    (157, 5),
-    (155, 4),
-    (154, 3),
-    (154, 3),
-    (155, 4),
-    (157, 5),
-    (160, 5),
-    (163, 4),
-    (165, 4),
-    (167, 4),
-    (169, 2),
-    (169, 3),
-    (170, 2),
-    (170, 2),
-    (170, 2),
-    (170, 2),
-    (170, 2),
-    (170, 2),
-    (170, 2),
-    (170, 2),
-    (170, 2),
-    (170, 2),
-    (170, 2),
-    (170, 2),
-    (170, 2),
-    (170, 2),
-    (170, 2),
+/// One beat of 64 columns, as the corners of a curve: column and row.
+const BEAT: [Point; 23] = [
+    (0, 170),
+    (7, 170),
+    (9, 166),
+    (11, 163),
+    (13, 163),
+    (15, 166),
+    (17, 170),
+    (19, 170),
+    (21, 179),
+    (23, 96),
+    (26, 187),
+    (28, 170),
+    (31, 169),
+    (33, 167),
+    (35, 163),
+    (37, 157),
+    (39, 154),
+    (40, 154),
+    (42, 157),
+    (44, 162),
+    (46, 167),
+    (48, 169),
+    (50, 170),
 ];
+const BEAT_COLUMNS: i64 = 64;
+
+/// The columns of the curve.
+const FROM: i64 = 8;
+const UPTO: i64 = 248;
+
+/// The curve is drawn at these places, so that it is two pixels wide where it is flat and where it is steep.
+const STROKES: [Point; 3] = [(0, 0), (1, 0), (0, 1)];
 
 /// A hatch: the fill mask of each of eight rows. It comes again every 32 pixels, no sooner.
 const HATCH: [u32; 8] = [
@@ -164,10 +133,28 @@ fn screen(to: &mut Recorder) {
     to.filled(0, 0, 256, 256);
 }
 
+/// The corners of beat after beat, up to the curve's last column.
+fn curve() -> Vec<Point> {
+    let beats = (0..).flat_map(|beat| BEAT.map(|(x, y)| (FROM + BEAT_COLUMNS * beat + x, y)));
+    beats.take_while(|&(x, _)| x <= UPTO).collect()
+}
+
+/// Transparent lines from corner to corner; the long ones go on by continues.
 fn heartbeat(to: &mut Recorder) {
+    let screen = Screen {
+        columns: WIDTH.into(),
+        length: (WIDTH * ROWS).into(),
+    };
+    to.register(MODE, mode::TRANSPARENT_LINE | mode::CAP);
     to.register(FOREGROUND, 0x7F7F_7F7F);
-    for (x, (top, rows)) in (8..248).zip(BEAT.into_iter().cycle()) {
-        to.filled(x, top, 1, rows);
+    for (across, down) in STROKES {
+        let shifted = |(x, y): Point| (x + across, y + down);
+        for corners in curve().windows(2) {
+            let [first, last] = [corners[0], corners[1]].map(shifted);
+            for write in lines::writes(screen, first, last, Rest::Continued) {
+                to.write(write.space, write.address, write.data);
+            }
+        }
     }
 }
 

@@ -1,14 +1,20 @@
-//! Counts what writes reached: by mode or register and number, and in some situations.
+//! Counts what writes reached: by mode or register and number, and in some situations, those of lines among them.
 
-use crate::listed::mode::{self, MODES};
+mod lines;
+
+use crate::listed::mode::{self, LINES, MODES};
 use crate::listed::OFFSETS;
 use crate::model::{self, Answer, Card, Write, FRAME, REGISTER};
 
-const OTHER_MODE: usize = MODES.len();
+const OTHER_MODE: usize = MODES.len() + LINES.len();
 const FIRST_REGISTER: usize = OTHER_MODE + 1;
 const OTHER_REGISTER: usize = FIRST_REGISTER + OFFSETS.len();
 const OTHER_SPACE: usize = OTHER_REGISTER + 1;
 const ROWS: usize = OTHER_SPACE + 1;
+
+/// The numbers that a write answers are 0 to 13, but 10 and 11 are for traces.
+const NUMBERS: usize = 14;
+const FOR_TRACES: [usize; 2] = [10, 11];
 
 /// Ask 3: opaque stipples with raster operation 3 and a full plane mask go a shorter way inside. So many are due on each way.
 const EACH_WAY: u64 = 100_000;
@@ -45,15 +51,21 @@ const SITUATIONS: [(&str, u64); 24] = [
 const CHANGED_TWICE: &str = "run of writes, more pixels changed than differ at its end";
 
 pub struct Coverage {
-    writes: [[u64; 10]; ROWS],
+    writes: [[u64; NUMBERS]; ROWS],
     situations: [u64; SITUATIONS.len()],
+    lines: lines::Met,
     /// Pixels changed so far in a run of writes.
     changed: u64,
     changed_twice: u64,
 }
 
+/// Every listed mode, with its name.
+fn modes() -> impl Iterator<Item = &'static (u32, &'static str)> {
+    MODES.iter().chain(&LINES)
+}
+
 fn row(card: &Card, write: Write) -> usize {
-    let mode = MODES.iter().position(|&(code, _)| code == card.mode);
+    let mode = modes().position(|&(code, _)| code == card.mode);
     let register = OFFSETS.iter().position(|&offset| offset == write.address);
     match write.space {
         FRAME => mode.unwrap_or(OTHER_MODE),
@@ -67,23 +79,27 @@ fn row_name(row: usize) -> String {
         OTHER_MODE => String::from("frame, mode not listed"),
         OTHER_REGISTER => String::from("register not listed"),
         OTHER_SPACE => String::from("space not 0 or 1"),
-        _ if row < OTHER_MODE => format!("{:02X}h {}", MODES[row].0, MODES[row].1),
-        _ => format!("register {:04X}h", OFFSETS[row - FIRST_REGISTER]),
+        _ => match modes().nth(row) {
+            Some((code, name)) => format!("{code:02X}h {name}"),
+            None => format!("register {:04X}h", OFFSETS[row - FIRST_REGISTER]),
+        },
     }
 }
 
 impl Coverage {
     pub fn new() -> Coverage {
         Coverage {
-            writes: [[0; 10]; ROWS],
+            writes: [[0; NUMBERS]; ROWS],
             situations: [0; SITUATIONS.len()],
+            lines: lines::Met::new(),
             changed: 0,
             changed_twice: 0,
         }
     }
 
-    /// Counts one write, made on the card as it stood before.
-    pub fn write(&mut self, card: &Card, write: Write, answer: Answer) {
+    /// Counts one write, made on the card as it stood before, and on a VRAM of this length.
+    pub fn write(&mut self, card: &Card, length: usize, write: Write, answer: Answer) {
+        self.lines.write(card, length, write, answer);
         let Answer {
             number,
             pixels,
@@ -137,14 +153,16 @@ impl Coverage {
         let differing = u64::from(model::differing(first, last));
         self.changed_twice += u64::from(self.changed > differing);
         self.changed = 0;
+        self.lines.end_run();
     }
 
     /// Each situation, with how often it must be met and was.
-    fn all_situations(&self) -> impl Iterator<Item = (&str, u64, u64)> {
+    fn all_situations(&self) -> impl Iterator<Item = (String, u64, u64)> + '_ {
         let of_writes = SITUATIONS.iter().zip(self.situations);
         of_writes
-            .map(|(&(name, least), count)| (name, least, count))
-            .chain([(CHANGED_TWICE, 1, self.changed_twice)])
+            .map(|(&(name, least), count)| (String::from(name), least, count))
+            .chain([(String::from(CHANGED_TWICE), 1, self.changed_twice)])
+            .chain(self.lines.all())
     }
 
     pub fn all_writes(&self) -> u64 {
@@ -153,7 +171,7 @@ impl Coverage {
 
     #[cfg(feature = "engine")]
     pub fn print(&self) {
-        let heading: String = (0..10).map(|number| format!("{number:>8}")).collect();
+        let heading: String = (0..NUMBERS).map(|number| format!("{number:>8}")).collect();
         println!("{:<26}{heading}", "write, by number");
         for (row, counts) in self.writes.iter().enumerate() {
             let cells: String = counts.iter().map(|count| format!("{count:>8}")).collect();
@@ -168,7 +186,7 @@ impl Coverage {
     /// What should have been reached and was not.
     pub fn missing(&self) -> Vec<String> {
         let mut missing = Vec::new();
-        for number in 0..10 {
+        for number in (0..NUMBERS).filter(|number| !FOR_TRACES.contains(number)) {
             if self.writes.iter().all(|counts| counts[number] == 0) {
                 missing.push(format!("number {number}"));
             }

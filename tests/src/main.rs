@@ -1,5 +1,5 @@
-//! `model`: the reference model alone, on the scope paper's samples, the recorded traces and the sample trace, and the plain
-//! implementation against it.
+//! `model`: the reference model alone, on the scope paper's samples, the recorded traces, the sample trace and a textbook's lines, and
+//! the plain implementation against it.
 //! `sample FILE`: writes the sample trace.
 //! `compare [SEED [FIRST [LAST]]]`: the model against the engine (feature `engine`), on numbered random cases: all of them, the
 //! one case FIRST, or those from FIRST to LAST.
@@ -17,6 +17,7 @@ mod damage;
 mod engine;
 mod fast;
 mod generate;
+mod lines;
 mod listed;
 mod model;
 mod random;
@@ -63,6 +64,10 @@ fn check_model() -> Result<(), String> {
         bedside::check()?
     );
     println!(
+        "lines on the model, every byte as in a textbook: {}",
+        lines::check_all(model::write)?
+    );
+    println!(
         "writes on the plain implementation as on the model: {}",
         compare::plain::check_all()?
     );
@@ -71,7 +76,8 @@ fn check_model() -> Result<(), String> {
 
 #[cfg(feature = "engine")]
 fn check_engine(words: &[&str]) -> Result<(), String> {
-    use compare::engine::{compare, CASES};
+    use compare::engine::compare;
+    use compare::CASES;
     let number = |i: usize, default: u64| match words.get(i) {
         None => Ok(default),
         Some(word) => word.parse().map_err(|_| format!("{word} is not a number")),

@@ -6,13 +6,14 @@ use std::fs;
 
 /// Name, and the number, the entries applied, the total pixels and those changed. The pixels are not recorded: they are the
 /// model's, counted once; model and engine are held to them.
-const RECORDED: [(&str, [u32; 4]); 8] = [
+const RECORDED: [(&str, [u32; 4]); 9] = [
     ("l8-000", [0, 811, 3478, 2094]),
     ("l8-004", [0, 468, 10672, 9995]),
     ("l8-012", [0, 830, 10433, 7790]),
     ("l8-015e", [8, 4080, 128360, 125176]),
     ("l8-021", [0, 4076, 217148, 193324]),
     ("x8-000-ask1", [0, 988, 39049, 30498]),
+    ("x8-004", [0, 474, 35009, 9822]),
     ("x8-009", [0, 477, 36285, 30602]),
     ("x8-015", [0, 491, 36434, 27020]),
 ];

@@ -1,5 +1,8 @@
 //! "Samples": S1 to S12 and the two sizes to be run as tests, with the values that the scope paper gives, and Ask 1 for S6. What
-//! Ask 4 makes of them is counted by hand, in the bytes that the paper gives before and after.
+//! Ask 4 makes of them is counted by hand, in the bytes that the paper gives before and after. Ask 5's lines have samples of
+//! their own.
+
+mod lines;
 
 use crate::model::serial::Reader;
 use crate::model::trace::{self, ENTRY, HEADER};
@@ -192,7 +195,7 @@ const RUNS: [Run; 5] = [
 
 /// Runs every sample on the model and counts them.
 pub fn check_all() -> Result<usize, String> {
-    for sample in SAMPLES {
+    for sample in SAMPLES.iter().chain(lines::SAMPLES) {
         check_one(sample).map_err(|why| format!("{}: {why}", sample.name))?;
     }
     check_composites()?;
@@ -200,7 +203,7 @@ pub fn check_all() -> Result<usize, String> {
     for run in &RUNS {
         check_run(run).map_err(|why| format!("run of {:X?}: {why}", run.0))?;
     }
-    Ok(SAMPLES.len() + 2 + RUNS.len())
+    Ok(SAMPLES.len() + lines::SAMPLES.len() + 2 + RUNS.len())
 }
 
 fn check_one(sample: &Sample) -> Result<(), String> {

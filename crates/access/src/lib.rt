@@ -18,6 +18,10 @@ fn value(card: Card, register: Register) -> u32
         Register::Mode => registers.mode,
         Register::RasterOperation => registers.raster,
         Register::PixelShift => 0,
+        Register::Bresenham1 => registers.bresenham1,
+        Register::Bresenham2 => registers.bresenham2,
+        Register::Bresenham3 => registers.bresenham3,
+        Register::Continue => 0,
         Register::PixelMask => card.mask.bits,
         Register::FillMask => registers.fill,
         Register::BlockColour(k) => {

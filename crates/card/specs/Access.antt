@@ -8,7 +8,7 @@ use Rattle.card.specs.declared.Card.{Card}
 use Rattle.card.specs.declared.Copier.{Copier}
 use Rattle.card.specs.declared.Mask.{Mask}
 use Rattle.card.specs.declared.Register.{Register}
-use Rattle.card.specs.declared.Register.the-variants.{Foreground, Background, PlaneMask, PixelMaskOnce, Mode, RasterOperation, PixelShift, PixelMask, FillMask, BlockColour, CopySource, CopyDestination, Missing}
+use Rattle.card.specs.declared.Register.the-variants.{Foreground, Background, PlaneMask, PixelMaskOnce, Mode, RasterOperation, PixelShift, Bresenham1, Bresenham2, Bresenham3, Continue, PixelMask, FillMask, BlockColour, CopySource, CopyDestination, Missing}
 use Rattle.card.specs.declared.Registers.{Registers}
 use Rattle.card.specs.declared.Reading.{Reading}
 
@@ -21,6 +21,10 @@ holds c PixelMaskOnce = c .mask .bits
 holds c Mode = c .registers .mode
 holds c RasterOperation = c .registers .raster
 holds c PixelShift = 0
+holds c Bresenham1 = c .registers .bresenham1
+holds c Bresenham2 = c .registers .bresenham2
+holds c Bresenham3 = c .registers .bresenham3
+holds c Continue = 0
 holds c PixelMask = c .mask .bits
 holds c FillMask = c .registers .fill
 holds c (BlockColour k) = getD (c .registers .block) (k % 8) 0
@@ -43,6 +47,9 @@ storedIn r g v =
       plane = cond (g is PlaneMask) v (r .plane);
       mode = cond (g is Mode) v (r .mode);
       raster = cond (g is RasterOperation) v (r .raster);
+      bresenham1 = cond (g is Bresenham1) v (r .bresenham1);
+      bresenham2 = cond (g is Bresenham2) v (r .bresenham2);
+      bresenham3 = cond (g is Bresenham3) v (r .bresenham3);
       fill = cond (g is FillMask) v (r .fill);
       block = cond (g is BlockColour 0) (set (r .block) (index g % 8) v) (r .block);
     }
@@ -62,4 +69,10 @@ turned k g = record { buffer = k .buffer; loaded = k .loaded; writing = cond (g 
 -- the card with v stored in a register
 unfoldable pub stores : Card → Register → ℕ → Card
 stores c g v =
-    record { registers = storedIn (c .registers) g v; mask = masked (c .mask) g v; copier = turned (c .copier) g; held = c .held }
+    record {
+      registers = storedIn (c .registers) g v;
+      mask = masked (c .mask) g v;
+      copier = turned (c .copier) g;
+      line = c .line;
+      held = c .held;
+    }

@@ -2,20 +2,26 @@
 -- Where it differs from the manual (000) and from Linux: docs/CHIP.md.
 use mathlib.Core.Bool.{Bool, true, false, cond, not}
 use mathlib.Core.List.{List, [], _∷_}
-use Prim.Native.Nat.{ℕ, _^_, _-_}
+use Prim.Native.Nat.{ℕ, _+_, _^_, _-_}
 use lib.Dec.{eqb}
 use Rattle.card.specs.declared.Register.{Register}
-use Rattle.card.specs.declared.Register.the-variants.{Foreground, Background, PlaneMask, PixelMaskOnce, Mode, RasterOperation, PixelShift, PixelMask, FillMask, BlockColour, CopySource, CopyDestination, Missing}
+use Rattle.card.specs.declared.Register.the-variants.{Foreground, Background, PlaneMask, PixelMaskOnce, Mode, RasterOperation, PixelShift, Bresenham1, Bresenham2, Bresenham3, Continue, PixelMask, FillMask, BlockColour, CopySource, CopyDestination, Missing}
 use Rattle.card.specs.declared.Row.{Row}
 
 abbrev ones : ℕ
 ones = 2 ^ 32 - 1
 
+-- the lowest bit of the initial error in Bresenham 3. The manual is split (31:15 in 4.4.12, 31:16 in 6.2.12); only with 17 bits can an
+-- error lie outside 16 "at the start", as Ask 5 has it
+abbrev pub errorBit : ℕ
+errorBit = 15
+
 abbrev pub row : ℕ → Register → ℕ → ℕ → Bool → Row
 row offset register kept reset readable =
     record { offset = offset; register = register; kept = kept; reset = reset; readable = readable }
 
--- offset, what it holds, the bits kept, at reset, readable. The 64-byte copy holds nothing, so its bits and its reset are not used
+-- offset, what it holds, the bits kept, at reset, readable. Of Bresenham 3 the initial error and the length are kept, bits 3:0.
+-- The 64-byte copy and continue hold nothing, so their bits and their reset are not used
 unfoldable pub table : List Row
 table =
     row 0x0020 Foreground ones 0 true
@@ -25,6 +31,10 @@ table =
     ∷ row 0x0030 Mode ones 0 true
     ∷ row 0x0034 RasterOperation 0xF 3 true
     ∷ row 0x0038 PixelShift 0xF 0 true
+    ∷ row 0x0040 Bresenham1 ones 0 true
+    ∷ row 0x0044 Bresenham2 ones 0 true
+    ∷ row 0x0048 Bresenham3 (2 ^ 32 - 2 ^ errorBit + 0xF) 0 true
+    ∷ row 0x004C Continue ones 0 false
     ∷ row 0x005C PixelMask ones ones true
     ∷ row 0x0080 FillMask ones 0 true
     ∷ row 0x0140 (BlockColour 0) ones 0 true
@@ -56,12 +66,16 @@ code PixelMaskOnce = 3
 code Mode = 4
 code RasterOperation = 5
 code PixelShift = 6
-code PixelMask = 7
-code FillMask = 8
-code (BlockColour k) = 9
-code CopySource = 10
-code CopyDestination = 11
-code Missing = 12
+code Bresenham1 = 7
+code Bresenham2 = 8
+code Bresenham3 = 9
+code Continue = 10
+code PixelMask = 11
+code FillMask = 12
+code (BlockColour k) = 13
+code CopySource = 14
+code CopyDestination = 15
+code Missing = 16
 
 infix 40 _is_
 abbrev pub _is_ : Register → Register → Bool
@@ -76,6 +90,10 @@ index PixelMaskOnce = 0
 index Mode = 0
 index RasterOperation = 0
 index PixelShift = 0
+index Bresenham1 = 0
+index Bresenham2 = 0
+index Bresenham3 = 0
+index Continue = 0
 index PixelMask = 0
 index FillMask = 0
 index (BlockColour k) = k

@@ -12,6 +12,10 @@ pub enum Register {
     Mode,
     RasterOperation,
     PixelShift,
+    Bresenham1,
+    Bresenham2,
+    Bresenham3,
+    Continue,
     PixelMask,
     FillMask,
     BlockColour(u8),
@@ -43,6 +47,9 @@ pub struct Registers {
     pub plane: u32,
     pub mode: u32,
     pub raster: u32,
+    pub bresenham1: u32,
+    pub bresenham2: u32,
+    pub bresenham3: u32,
     pub fill: u32,
     pub block: [u32; 8],
 }
@@ -62,6 +69,15 @@ pub struct Copier {
     pub writing: u32,
 }
 
+// Where the last line or continue stopped, for the next continue: the place and the error after its last step, and whether there was one. Both words are
+// signed, in two's complement: the place can lie below 0. They are kept apart from the registers, which a line leaves alone.
+#[repr(C)]
+pub struct Line {
+    pub place: u32,
+    pub error: u32,
+    pub kept: u32,
+}
+
 // The whole state, in parts. Every field is a word or an array of a multiple of four bytes, so no byte of it is padding and every pattern of bytes
 // is a card; a mark is set where its word is not 0. No write can change the held planes, bits 7:0 of `held`.
 #[repr(C)]
@@ -69,6 +85,7 @@ pub struct Card {
     pub registers: Registers,
     pub mask: Mask,
     pub copier: Copier,
+    pub line: Line,
     pub held: u32,
 }
 
@@ -91,6 +108,9 @@ pub struct Write {
 // All 32 bits.
 pub const ONES: u32 = 0xFFFF_FFFF;
 
+// The lowest bit of the initial error in Bresenham 3, bit 15, as a number; bits 14:4 hold nothing, bits 3:0 the length.
+pub const ERROR_UNIT: u32 = 0x8000;
+
 impl Card {
     // Every register and mark at reset, with no plane held.
     pub const RESET: Card = Card {
@@ -100,6 +120,9 @@ impl Card {
             plane: ONES,
             mode: 0,
             raster: 3,
+            bresenham1: 0,
+            bresenham2: 0,
+            bresenham3: 0,
             fill: 0,
             block: [0, 0, 0, 0, 0, 0, 0, 0],
         },
@@ -111,6 +134,11 @@ impl Card {
             buffer: [0; 64],
             loaded: CLEAR,
             writing: CLEAR,
+        },
+        line: Line {
+            place: 0,
+            error: 0,
+            kept: CLEAR,
         },
         held: 0,
     };

@@ -11,9 +11,10 @@ use Rattle.card.specs.declared.Write.{Write}
 use Rattle.card.specs.Registers.{rowAt, rowIn, table}
 use Rattle.card.specs.Access.{stores}
 use Rattle.card.specs.Reset.{resetCard}
-use Rattle.rules.specs.Modes.{modeOf, frameSpan, spansOf, effectiveBy}
-use Rattle.rules.specs.Refusal.{badLength, badSpace, badLanes, noRegister, badMode, badRaster, offBoundary, outside, unloaded, refusal}
-use Rattle.rules.specs.Writes.{count, operation, layers, picture, changed, sourced, afterFrame, afterRegister, next}
+use Rattle.rules.specs.Modes.{modeOf, frameSpan, effectiveBy}
+use Rattle.rules.specs.Lines.{walks, spansOf}
+use Rattle.rules.specs.Refusal.{badLength, badSpace, badLanes, noRegister, badMode, badRaster, offBoundary, outside, unloaded, wildWalk, noLine, refusal}
+use Rattle.rules.specs.Writes.{count, operation, layers, picture, changed, sourced, movedLine, afterFrame, afterRegister, next}
 use Rattle.rules.specs.Sequences.{answersOf, EachUndoable}
 
 abbrev caliper : List Write
@@ -22,5 +23,5 @@ caliper =
 
 pub met : EachUndoable caliper (resetCard 0) (replicate 64 0)
     × (answersOf caliper (resetCard 0) (replicate 64 0) ≡ (0, 0, 0) ∷ (0, 4, 4) ∷ [])
-unfolding answersOf refusal badLength badSpace badLanes noRegister badMode badRaster offBoundary outside unloaded modeOf frameSpan spansOf spanned effectiveBy count operation layers picture changed sourced afterFrame afterRegister next resetCard rowAt rowIn table stores byte from before drawn drawnAll changedAll counted differing listed made number result bit
+unfolding answersOf refusal badLength badSpace badLanes noRegister badMode badRaster offBoundary outside unloaded wildWalk noLine walks movedLine modeOf frameSpan spansOf spanned effectiveBy count operation layers picture changed sourced afterFrame afterRegister next resetCard rowAt rowIn table stores byte from before drawn drawnAll changedAll counted differing listed made number result bit
 met = ((record { drawing = inl refl; reading = refl }, (record { drawing = inr (tt, refl); reading = refl }, tt)), refl)

@@ -17,10 +17,11 @@ use Rattle.span.proofs.Changed.{differing-none, changedAll-within, changedAll-z
 use Rattle.span.proofs.Layers.{drawnAll-bytes}
 use Rattle.card.specs.declared.Card.{Card}
 use Rattle.card.specs.declared.Write.{Write}
-use Rattle.rules.specs.Modes.{effective, spansOf}
+use Rattle.rules.specs.Modes.{effective}
+use Rattle.rules.specs.Lines.{spansOf}
 use Rattle.rules.specs.Refusal.{refusal}
 use Rattle.rules.specs.Writes.{count, layers, inBlockMode, operation, picture, changed}
-use Rattle.rules.specs.Sequences.{withOperation, drawnWith, obeys}
+use Rattle.rules.specs.Sequences.{withOperation, drawnWith, obeys, VisitsOnce}
 use Rattle.rules.proofs.Outcome.{count-accepted, changed-accepted, changed-refused}
 use Rattle.demands.proofs.Demand1.{same-length}
 use Rattle.demands.proofs.Demand3.{layers-same, operation-with, apart, obeying}
@@ -39,15 +40,20 @@ module _ (c : Card) (w : Write) (v : List ℕ) where
           omega (arith, changed-accepted c w v e, count-accepted c w v e, changedAll-within (operation c w) (effective c) (spansOf c w) v)
       go (no h) = omega (arith, changed-refused c w v h)
 
-  -- a write of today makes one pass over the picture, or none: the number is that of the pixels that differ between the picture before and the picture after
-  pub whole : changed c w v ≡ differing v (picture c w v)
+  -- where none is changed the picture stays
+  pub none-changed : changed c w v ≡ 0 → picture c w v ≡ v
   unfolding changed picture
-  whole = changedAll-apart (operation c w) (layers c w (length v)) v (apart c w (length v))
+  none-changed = changedAll-zero (operation c w) (layers c w (length v)) v
 
-  -- 0 exactly when the picture stays. That it stays where none is changed holds of any list of spans
-  pub stays-exactly : (changed c w v ≡ 0) ↔ (picture c w v ≡ v)
-  unfolding changed picture
-  stays-exactly = (changedAll-zero (operation c w) (layers c w (length v)) v, λ e. whole ∙ (ap (differing v) e ∙ differing-none v))
+  module _ (once : VisitsOnce c w (length v)) where
+    -- a write that visits no pixel twice: the number is that of the pixels that differ between the picture before and the picture after
+    pub whole : changed c w v ≡ differing v (picture c w v)
+    unfolding changed picture
+    whole = changedAll-apart (operation c w) (layers c w (length v)) v (apart c w (length v) once)
+
+    -- and it is 0 exactly when the picture stays
+    pub stays-exactly : (changed c w v ≡ 0) ↔ (picture c w v ≡ v)
+    stays-exactly = (none-changed, λ e. whole ∙ (ap (differing v) e ∙ differing-none v))
 
 -- a picture of bytes stays one
 pub picture-bytes : (c : Card) (w : Write) (v : List ℕ) → Bytes v → Bytes (picture c w v)

@@ -11,8 +11,9 @@ use Rattle.card.specs.declared.Card.{Card}
 use Rattle.card.specs.declared.Write.{Write}
 use Rattle.card.specs.Registers.{rowAt, rowIn, table}
 use Rattle.card.specs.Reset.{resetCard}
-use Rattle.rules.specs.Modes.{modeOf, frameSpan, spansOf, effectiveBy}
-use Rattle.rules.specs.Refusal.{badLength, badSpace, badLanes, noRegister, badMode, badRaster, offBoundary, outside, unloaded, refusal}
+use Rattle.rules.specs.Modes.{modeOf, frameSpan, effectiveBy}
+use Rattle.rules.specs.Lines.{walks, spansOf}
+use Rattle.rules.specs.Refusal.{badLength, badSpace, badLanes, noRegister, badMode, badRaster, offBoundary, outside, unloaded, wildWalk, noLine, refusal}
 use Rattle.rules.specs.Writes.{count, operation, layers, picture, changed}
 use Rattle.rules.specs.Sequences.{withOperation, drawnWith}
 
@@ -32,5 +33,5 @@ pub record NotAlike : Type 0 where
   pub second : changed card draw (drawnWith 3 (resetCard 0) draw screen) ≡ 0
 
 pub not-alike : NotAlike
-unfolding refusal badLength badSpace badLanes noRegister badMode badRaster offBoundary outside unloaded modeOf frameSpan spansOf spanned effectiveBy count operation layers picture changed resetCard rowAt rowIn table byte from before drawn drawnAll changedAll counted differing made number result bit
+unfolding refusal badLength badSpace badLanes noRegister badMode badRaster offBoundary outside unloaded wildWalk noLine walks modeOf frameSpan spansOf spanned effectiveBy count operation layers picture changed resetCard rowAt rowIn table byte from before drawn drawnAll changedAll counted differing made number result bit
 not-alike = record { enabled = (refl, refl); first = refl; second = refl }

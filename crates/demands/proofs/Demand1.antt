@@ -26,10 +26,10 @@ first-below n [] h t = h
 first-below n ((k, true) ∷ rs) h t = ltb-true k n (is-true _ (left (ltb k n) (below n rs) t))
 first-below n ((k, false) ∷ rs) h t = first-below n rs h (right (ltb k n) (below n rs) t)
 
--- the answer is one of the numbers 0 to 9
-pub answered : (c : Card) (w : Write) (n : ℕ) → refusal c w n ≤ 9
+-- the answer is one of the numbers 0 to 9, 12 and 13
+pub answered : (c : Card) (w : Write) (n : ℕ) → refusal c w n ≤ 13
 unfolding refusal
-answered c w n = let h = first-below 10 (rows c w n) (omega arith) tt in omega arith
+answered c w n = let h = first-below 14 (rows c w n) (omega arith) tt in omega arith
 
 -- a refused write returns a pixel count of 0, and the card and the video memory stay as they stood
 pub refused-leaves : (c : Card) (w : Write) (v : List ℕ) → (refusal c w (length v) ≡ 0 → ⊥)

@@ -18,7 +18,8 @@ use Rattle.span.proofs.Layers.{drawnAll-kept, drawnAll-outside, each-map, each-
 use Rattle.card.specs.declared.Card.{Card}
 use Rattle.card.specs.declared.Write.{Write}
 use Rattle.span.specs.Spans.{Span, spanned}
-use Rattle.rules.specs.Modes.{effectiveBy, effective, spansOf}
+use Rattle.rules.specs.Modes.{effectiveBy, effective}
+use Rattle.rules.specs.Lines.{spansOf}
 use Rattle.rules.specs.Writes.{accepted, operation, layers, afterFrame, afterRegister, next, picture}
 use Rattle.rules.specs.Sequences.{cardAfter, pictureAfter}
 use Rattle.span.proofs.Spans.{spanned-before, spanned-in, spanned-past, spanned-disabled}

@@ -12,9 +12,10 @@ use Rattle.span.specs.Spans.{Span, In, spanned, enabledIn}
 use Rattle.span.proofs.Spans.{beside-shows, beside-counts}
 use Rattle.card.specs.declared.Card.{Card}
 use Rattle.card.specs.declared.Write.{Write}
-use Rattle.rules.specs.Modes.{modeOf, isBlock, isCopy, effective, fillLow, fillFirst, fillWidth, frameSpan, spansOf}
-use Rattle.rules.specs.Refusal.{badLanes, badMode, badRaster, offBoundary, outside, unloaded, refusal}
-use Rattle.rules.specs.Writes.{count, operation, picture, usedUp, afterFrame, next}
+use Rattle.rules.specs.Modes.{modeOf, isBlock, isCopy, isLine, effective, fillLow, fillFirst, fillWidth, frameSpan}
+use Rattle.rules.specs.Lines.{walks, start, visitCount, visitsOf, spansOf}
+use Rattle.rules.specs.Refusal.{badLanes, badMode, badRaster, offBoundary, outside, unloaded, wildWalk, noLine, refusal}
+use Rattle.rules.specs.Writes.{count, operation, picture, usedUp, movedLine, afterFrame, next}
 use Rattle.rules.specs.Sequences.{cardAfter, pictureAfter}
 use Rattle.rules.proofs.Outcome.{picture-accepted, count-accepted, next-frame}
 use Rattle.demands.proofs.Demand1.{same-length}
@@ -45,9 +46,14 @@ no-copy opaque-fill = refl
 no-copy transparent-fill = refl
 no-copy block-fill = refl
 
+no-line : (f : Fill) → isLine (fillMode f) ≡ false
+no-line opaque-fill = refl
+no-line transparent-fill = refl
+no-line block-fill = refl
+
 -- the card that a fill leaves: its mask is used up, which no fill looks at
 abbrev used : Card → Card
-used c = record { registers = c .registers; mask = usedUp (c .mask); copier = c .copier; held = c .held }
+used c = record { registers = c .registers; mask = usedUp (c .mask); copier = c .copier; line = c .line; held = c .held }
 
 used-span : (f : Fill) (c : Card) (w : Write) → fillSpan f (used c) w ≡ fillSpan f c w
 unfolding frameSpan
@@ -59,9 +65,13 @@ module _ (f : Fill) where
   abbrev op : Card → ℕ
   op c = cond (isBlock (fillMode f)) 3 (c .registers .raster)
 
+  still : (c : Card) (w : Write) → w .space ≡ 0 → modeOf (c .registers .mode) ≡ fillMode f → walks c w ≡ false
+  unfolding walks
+  still c w frame mode = rw (frame, mode) (no-line f)
+
   one-span : (c : Card) (w : Write) → w .space ≡ 0 → modeOf (c .registers .mode) ≡ fillMode f → spansOf c w ≡ fillSpan f c w ∷ []
   unfolding spansOf
-  one-span c w frame mode = rw (frame, mode)
+  one-span c w frame mode = rw (still c w frame mode, frame, mode)
 
   module _ (c : Card) (w : Write) (v : List ℕ) (h : Fills f c w (length v)) where
     spans : spansOf c w ≡ fillSpan f c w ∷ []
@@ -75,15 +85,16 @@ module _ (f : Fill) where
     fill-counts = count-accepted c w v (h .accepted) ∙ rw spans (omega arith)
 
     fill-leaves : next c w v ≡ used c
-    unfolding afterFrame
-    fill-leaves = next-frame c w v (h .accepted) (λ e. omega (arith, h .frame)) ∙ rw (h .mode, no-copy f)
+    unfolding afterFrame movedLine
+    fill-leaves =
+        next-frame c w v (h .accepted) (λ e. omega (arith, h .frame)) ∙ rw (still c w (h .frame) (h .mode), h .mode, no-copy f)
 
     used-spans : spansOf (used c) w ≡ spansOf c w
     used-spans = one-span (used c) w (h .frame) (h .mode) ∙ (ap (λ (s : Span). s ∷ []) (used-span f c w) ∙ sym spans)
 
     -- the card that another fill left accepts it too
     fills-again : Fills f (used c) w (length v)
-    unfolding refusal badLanes badMode badRaster offBoundary outside unloaded
+    unfolding refusal badLanes badMode badRaster offBoundary outside unloaded wildWalk noLine walks visitsOf visitCount start
     fills-again = record { frame = h .frame; mode = h .mode; accepted = rw used-spans (h .accepted) }
 
   module _ (c : Card) (w w′ u : Write) (v : List ℕ) (a : Across w w′ u) (h : Fills f c w (length v)) (h′ : Fills f c w′ (length v)) (k : Fills f c u (length v)) where

@@ -8,8 +8,9 @@ use Rattle.card.specs.declared.Write.{Write}
 use Rattle.card.specs.Registers.{rowAt, rowIn, table}
 use Rattle.card.specs.Access.{stores}
 use Rattle.card.specs.Reset.{resetCard}
-use Rattle.rules.specs.Modes.{modeOf, frameSpan, spansOf}
-use Rattle.rules.specs.Refusal.{badLength, badSpace, badLanes, noRegister, badMode, badRaster, offBoundary, outside, unloaded, refusal}
+use Rattle.rules.specs.Modes.{modeOf, frameSpan}
+use Rattle.rules.specs.Lines.{walks, spansOf}
+use Rattle.rules.specs.Refusal.{badLength, badSpace, badLanes, noRegister, badMode, badRaster, offBoundary, outside, unloaded, wildWalk, noLine, refusal}
 use Rattle.rules.specs.Writes.{layers, picture, afterRegister, next}
 use Rattle.rules.specs.Sequences.{cardAfter}
 use Rattle.demands.proofs.Seam.{transparent-fill}
@@ -32,7 +33,7 @@ abbrev both : Write
 both = record { space = 0; lanes = 15; address = 0; «data» = 0x0001002A }
 
 pub met : Across left right both × Fills transparent-fill hatching left 64 × Fills transparent-fill hatching right 64 × Fills transparent-fill hatching both 64
-unfolding cardAfter refusal badLength badSpace badLanes noRegister badMode badRaster offBoundary outside unloaded modeOf frameSpan spansOf layers picture drawnAll afterRegister next resetCard rowAt rowIn table stores
+unfolding cardAfter refusal badLength badSpace badLanes noRegister badMode badRaster offBoundary outside unloaded wildWalk noLine walks modeOf frameSpan spansOf layers picture drawnAll afterRegister next resetCard rowAt rowIn table stores
 met = (
   record { beside = refl; agrees = refl; address = refl; low = refl; width = refl },
   record { frame = refl; mode = refl; accepted = refl },

@@ -1,4 +1,5 @@
 -- The demands, as theorems over the definitions of `rules`.
+pub mod Visits
 pub mod Counting
 pub mod Demand1
 pub mod Demand2

@@ -19,7 +19,8 @@ use Rattle.card.specs.Access.{stores}
 use Rattle.card.specs.declared.Card.{Card}
 use Rattle.card.specs.declared.Write.{Write}
 use Rattle.card.specs.declared.Register.the-variants.{CopySource}
-use Rattle.rules.specs.Modes.{modeOf, isCopy, effective, registerOf, spansOf}
+use Rattle.rules.specs.Modes.{modeOf, isCopy, effective, registerOf}
+use Rattle.rules.specs.Lines.{spansOf}
 use Rattle.rules.specs.Refusal.{refusal}
 use Rattle.rules.specs.Writes.{accepted, count, layers, operation, picture, afterFrame, afterRegister, next}
 use Rattle.rules.specs.Sequences.{readsPixels}

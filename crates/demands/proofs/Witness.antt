@@ -17,8 +17,9 @@ use Rattle.card.specs.declared.Write.{Write}
 use Rattle.card.specs.Registers.{rowAt, rowIn, table}
 use Rattle.card.specs.Reset.{resetCard}
 use Rattle.span.specs.Spans.{spanned}
-use Rattle.rules.specs.Modes.{modeOf, frameSpan, spansOf, effectiveBy}
-use Rattle.rules.specs.Refusal.{badLength, badSpace, badLanes, noRegister, badMode, badRaster, offBoundary, outside, unloaded, refusal}
+use Rattle.rules.specs.Modes.{modeOf, frameSpan, effectiveBy}
+use Rattle.rules.specs.Lines.{walks, spansOf}
+use Rattle.rules.specs.Refusal.{badLength, badSpace, badLanes, noRegister, badMode, badRaster, offBoundary, outside, unloaded, wildWalk, noLine, refusal}
 use Rattle.rules.specs.Writes.{operation, layers, picture}
 use Rattle.rules.specs.declared.Mode.the-variants.{Simple}
 use Rattle.rules.specs.Sequences.{withOperation, drawnWith, obeys}
@@ -45,7 +46,7 @@ abbrev fails : ℕ → Bool
 fails op = restoring op || (eqb (refusal (withOperation op (resetCard 0)) (draw op) 64) 0 && not (eqb (getD (twice op) 0 0) (old op)))
 
 every-op : T (allBelow 16 fails)
-unfolding refusal badLength badSpace badLanes noRegister badMode badRaster offBoundary outside unloaded modeOf frameSpan spansOf spanned effectiveBy picture layers operation resetCard rowAt rowIn table byte from before drawn drawnAll made number result bit
+unfolding refusal badLength badSpace badLanes noRegister badMode badRaster offBoundary outside unloaded wildWalk noLine walks modeOf frameSpan spansOf spanned effectiveBy picture layers operation resetCard rowAt rowIn table byte from before drawn drawnAll made number result bit
 every-op = tt
 
 second : (a b : Bool) → (T a → ⊥) → T (a || b) → T b

@@ -19,10 +19,12 @@ use Rattle.strokes.proofs.Letters.{lettered}
 use Rattle.card.specs.declared.Card.{Card}
 use Rattle.card.specs.declared.Write.{Write}
 use Rattle.rules.specs.Modes.{modeOf, effective, effectiveBy, frameSpan}
+use Rattle.rules.specs.Lines.{walks}
 use Rattle.rules.specs.Refusal.{offBoundary, refusal}
 use Rattle.rules.specs.Writes.{count, next, picture, changed}
 use Rattle.rules.specs.declared.Mode.the-variants.{OpaqueStipple}
 use Rattle.demands.proofs.Changed.{whole}
+use Rattle.demands.proofs.Demand3.{visits-none}
 use Rattle.rules.proofs.Outcome.{accepted-passed, next-refused}
 use Rattle.rules.proofs.Tests.{not-not, both}
 use Rattle.plan.specs.Plan.{planOf, framePlan, planned, left}
@@ -46,6 +48,11 @@ module _ (c : Card) (w : Write) (t : isText c w ≡ true) where
   in-mode : modeOf (c .registers .mode) ≡ OpaqueStipple
   unfolding modeOf
   in-mode = rw (fits .0)
+
+  -- it is no line and no continue
+  pub text-still : walks c w ≡ false
+  unfolding walks
+  text-still = rw (fits .3, in-mode)
 
   text-plan : planOf c w ≡ framePlan OpaqueStipple c w
   unfolding planOf
@@ -80,16 +87,16 @@ module _ (c : Card) (w : Write) (t : isText c w ≡ true) where
           → r .changed ≡ differing v v′ → (v′ ≡ picture c w v) × (r .enabled ≡ count c w (length v)) × (r .changed ≡ changed c w v)
       unfolding frameSpan
       text-drawn l n ch =
-          let inside : w .address + 32 ≤ length v = subst (λ (p : Plan). p .first + p .width ≤ length v) text-plan (planned-inside c w v ok) in
+          let inside : w .address + 32 ≤ length v = subst (λ (p : Plan). p .first + p .width ≤ length v) text-plan (planned-inside c w text-still v ok) in
           let e = drew s _ (effective c) (planned (framePlan OpaqueStipple c w) c) text-draws (w .address) v (lettered s (w .address) v eo ew inside l n ch) refl inside in
-          let shown = e .0 ∙ sym (planned-shows c w v ok ∙ ap (λ (p : Plan). drawn (p .op) (spanned (effective c) (planned p c)) v) text-plan) in (
+          let shown = e .0 ∙ sym (planned-shows c w text-still v ok ∙ ap (λ (p : Plan). drawn (p .op) (spanned (effective c) (planned p c)) v) text-plan) in (
             shown,
-            e .1 ∙ sym (planned-counts c w v ok ∙ ap (λ (p : Plan). enabledIn (planned p c)) text-plan),
-            e .2 ∙ (ap (differing v) shown ∙ sym (whole c w v)),
+            e .1 ∙ sym (planned-counts c w text-still v ok ∙ ap (λ (p : Plan). enabledIn (planned p c)) text-plan),
+            e .2 ∙ (ap (differing v) shown ∙ sym (whole c w v (visits-none c w (length v) text-still))),
           )
 
     pub text-leaves : left UsesMask c w v ≡ next c w v
-    text-leaves = sym (planned-leaves c w v ok ∙ ap (λ (p : Plan). left (p .effect) c w v) text-plan)
+    text-leaves = sym (planned-leaves c w text-still v ok ∙ ap (λ (p : Plan). left (p .effect) c w v) text-plan)
 
 -- ---- What is known of the card.
 
@@ -101,9 +108,17 @@ pub keeps-accepted : (c : Card) (w : Write) (n : ℕ) {b : Bool} → refusal c w
 unfolding keeps
 keeps-accepted c w n ok e = rw (eq-eqb _ _ ok) (sym e)
 
+pub keeps-either : (c : Card) (w : Write) (n : ℕ) {k : ℕ} → k ≡ refusal c w n → isText c w ≡ false → not (eqb k 0) ≡ keeps c w n
+unfolding keeps
+keeps-either c w n e t = rw (e, t) (go (eqb (refusal c w n) 0))
+  where
+    go : (b : Bool) → not b ≡ cond b false true
+    go true = refl
+    go false = refl
+
 -- a card with the pixel mask of another, and the rest of its own
 abbrev pub remasked : Card → Card → Card
-remasked c d = record { registers = c .registers; mask = d .mask; copier = c .copier; held = c .held }
+remasked c d = record { registers = c .registers; mask = d .mask; copier = c .copier; line = c .line; held = c .held }
 
 -- where a write keeps the card, the next one is that
 pub kept : (c : Card) (w : Write) (v : List ℕ) → keeps c w (length v) ≡ true → next c w v ≡ remasked c (next c w v)

@@ -1,2 +1,3 @@
--- The laws of the shorter way.
+-- The laws of the shorter way, and of a walk.
 pub mod Letters
+pub mod Walking

@@ -1,16 +1,19 @@
 // The engine: one write at a time, with the card's state and a lent video memory.
 // What a write means stands in the crate `rules`; what is promised here stands in specs/.
 ghost use mathlib.Core.Path.{_≡_};
-ghost use mathlib.Core.Bool.{true};
+ghost use mathlib.Core.Bool.{true, false};
 ghost use Prim.Native.Nat.{_%_};
 ghost use lib.ListN.{length};
 ghost use Rattle.raster.specs.Pixel.{bit};
 ghost use Rattle.span.specs.Fragments.{counted};
 ghost use Rattle.rules.specs.Refusal.{refusal};
-ghost use Rattle.plan.specs.Plan.{planOf};
+ghost use Rattle.rules.specs.Lines.{walks};
+ghost use Rattle.plan.specs.Plan.{planOf, judged};
 ghost use Rattle.engine.specs.Contract.{Written};
 ghost use Rattle.engine.specs.Text.{isText, keeps};
+ghost use Rattle.engine.specs.Walks.{walkedOn};
 use card::Card;
+use card::Line;
 use card::ONES;
 use card::REGISTERS;
 use card::Write;
@@ -18,6 +21,9 @@ use plan::COPY;
 use plan::Plan;
 use span::Strokes;
 use span::Tally;
+
+// The offset of continue.
+const CONTINUE: u32 = 0x004C;
 
 // The mode register in opaque stipple mode.
 const OPAQUE_STIPPLE: u32 = 0x01;
@@ -46,11 +52,11 @@ fn plan_of(card: Card, w: Write) -> Plan
     }
 }
 
-// ---- The two ways of an accepted write, under one contract.
+// ---- The three ways of a write that has nothing at fault, under one contract.
 
-// Any write: the effect and the drawing of its plan.
+// Any write but a line or a continue: the effect and the drawing of its plan.
 fn by_plan(p: Plan, card: Card, w: Write, vram: &mut [u8]) -> Answer
-    requires { ⌜ (p ≡ planOf card w) × (refusal card w (length (now vram)) ≡ 0) ⌝ }
+    requires { ⌜ (p ≡ planOf card w) × (walks card w ≡ false) × (refusal card w (length (now vram)) ≡ 0) ⌝ }
     ensures { λ r. ⌜ Written card w (now (vram .entry)) r (now (vram .exit)) ⌝ }
 {
     let effect = p.effect;
@@ -98,6 +104,53 @@ fn text(card: Card, w: Write, vram: &mut [u8]) -> Answer
     }
 }
 
+// Whether it is a line or a continue.
+fn is_walk(card: Card, w: Write) -> bool
+    ensures { λ r. ⌜ r ≡ walks card w ⌝ }
+{
+    if w.space == REGISTERS {
+        return w.address == CONTINUE;
+    }
+    modes::is_line(modes::mode_of(card.registers.mode))
+}
+
+// The card that an accepted one leaves. A line, which is a frame write, uses a one-shot pixel mask up; a continue, a register write, does not.
+fn moved(card: Card, w: Write, line: Line) -> Card
+    ensures { λ r. ⌜ r ≡ walkedOn card w line ⌝ }
+{
+    if w.space == REGISTERS {
+        let mut next = card;
+        next.line = line;
+        return next;
+    }
+    let mut used = effects::mask_used(card);
+    used.line = line;
+    used
+}
+
+// A line or a continue (Ask 5): the walk, which may still be refused.
+fn by_walk(card: Card, w: Write, vram: &mut [u8]) -> Answer
+    requires { ⌜ (walks card w ≡ true) × (judged (planOf card w) w (length (now vram)) ≡ 0) ⌝ }
+    ensures { λ r. ⌜ Written card w (now (vram .entry)) r (now (vram .exit)) ⌝ }
+{
+    let walk = walks::draw(card, w, vram);
+    let number = walk.number;
+    let tally = walk.tally;
+    if number != 0 {
+        return Answer {
+            number,
+            tally,
+            card,
+        };
+    }
+    let next = moved(card, w, walk.line);
+    Answer {
+        number: 0,
+        tally,
+        card: next,
+    }
+}
+
 // Whether a write is text: an opaque stipple with operation 3 and a full plane mask. What seldom changes is asked first.
 fn is_text(card: Card, w: Write) -> bool
     ensures { λ r. ⌜ r ≡ isText card w ⌝ }
@@ -135,6 +188,11 @@ pub fn tell(card: Card, w: Write, vram: &mut [u8]) -> Told
     if is_text(card, w) {
         let answer = text(card, w, vram);
         return Told { answer, kept: true };
+    }
+    if is_walk(card, w) {
+        let answer = by_walk(card, w, vram);
+        let kept = answer.number != 0;
+        return Told { answer, kept };
     }
     let answer = by_plan(p, card, w, vram);
     Told {

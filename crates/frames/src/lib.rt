@@ -1,4 +1,4 @@
-// The plan of a frame write: one arm for each mode.
+// The plan of a frame write: one arm for each mode. A line's draws nothing: its walk is gone apart (crate `walks`).
 ghost use mathlib.Core.Path.{_≡_};
 ghost use Rattle.rules.specs.Modes.{modeOf, fillLow, fillFirst, fillWidth};
 ghost use Rattle.plan.specs.Plan.{framePlan, drawingPlan, copyPlan, halvedPlan, rotated as rotatedBy};
@@ -75,6 +75,8 @@ pub fn plan(card: Card, w: Write) -> Plan
             drawing(faults, f.first, f.width, COPY, f.mask, paint)
         }
         Mode::Copy => of_copy(faults, card.copier.writing, w, op),
+        Mode::OpaqueLine => drawing(faults, 0, 0, op, 0, Paint::Half),
+        Mode::TransparentLine => drawing(faults, 0, 0, op, 0, Paint::Half),
         Mode::Unlisted => {
             let mut unlisted = faults;
             unlisted.mode = true;

@@ -10,7 +10,8 @@ use Rattle.span.specs.Layers.{drawnAll, changedAll}
 use Rattle.span.specs.Spans.{spanned}
 use Rattle.card.specs.Registers.{rowAt, rowIn, table}
 use Rattle.card.specs.Reset.{resetCard}
-use Rattle.rules.specs.Modes.{modeOf, frameSpan, spansOf, effectiveBy}
+use Rattle.rules.specs.Modes.{modeOf, frameSpan, effectiveBy}
+use Rattle.rules.specs.Lines.{spansOf}
 use Rattle.rules.specs.Refusal.{badLength, badSpace, badLanes, noRegister, badMode, badRaster, offBoundary, outside, unloaded, refusal}
 use Rattle.rules.specs.Writes.{count, operation, layers, picture, changed, sourced, afterFrame, afterRegister, next}
 use Rattle.format.specs.Bytes.{word}

@@ -1,6 +1,7 @@
 // The register table: the rows of `card/specs/Registers.antt`.
 ghost use mathlib.Core.Path.{_≡_};
 ghost use Rattle.card.specs.Registers.{row, rowAt};
+use card::ERROR_UNIT;
 use card::ONES;
 use card::Register;
 use card::Row;
@@ -29,6 +30,10 @@ pub fn find(offset: u32) -> Row
         0x0030 => listed(offset, Register::Mode, ONES, 0, true),
         0x0034 => listed(offset, Register::RasterOperation, 0xF, 3, true),
         0x0038 => listed(offset, Register::PixelShift, 0xF, 0, true),
+        0x0040 => listed(offset, Register::Bresenham1, ONES, 0, true),
+        0x0044 => listed(offset, Register::Bresenham2, ONES, 0, true),
+        0x0048 => listed(offset, Register::Bresenham3, ONES - ERROR_UNIT + 16, 0, true),
+        0x004C => listed(offset, Register::Continue, ONES, 0, false),
         0x005C => listed(offset, Register::PixelMask, ONES, ONES, true),
         0x0080 => listed(offset, Register::FillMask, ONES, 0, true),
         0x0140 => listed(offset, Register::BlockColour(0), ONES, 0, true),

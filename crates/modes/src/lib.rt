@@ -1,6 +1,6 @@
 // The mode register, decoded.
 ghost use mathlib.Core.Path.{_≡_};
-ghost use Rattle.rules.specs.Modes.{modeOf, unlisted};
+ghost use Rattle.rules.specs.Modes.{modeOf, unlisted, isLine, isOpaqueLine};
 use rules::Mode;
 
 // The mode of a whole register value.
@@ -16,6 +16,10 @@ pub fn mode_of(v: u32) -> Mode
         0x0D => Mode::BlockStipple,
         0x2D => Mode::BlockFill,
         0x07 => Mode::Copy,
+        0x02 => Mode::OpaqueLine,
+        0x06 => Mode::TransparentLine,
+        0x8002 => Mode::OpaqueLine,
+        0x8006 => Mode::TransparentLine,
         _ => Mode::Unlisted,
     }
 }
@@ -33,6 +37,48 @@ pub fn is_unlisted(v: u32) -> bool
         0x0D => false,
         0x2D => false,
         0x07 => false,
+        0x02 => false,
+        0x06 => false,
+        0x8002 => false,
+        0x8006 => false,
         _ => true,
+    }
+}
+
+// The line modes.
+pub fn is_line(m: Mode) -> bool
+    ensures { λ r. ⌜ r ≡ isLine m ⌝ }
+{
+    match m {
+        Mode::Simple => false,
+        Mode::OpaqueStipple => false,
+        Mode::TransparentStipple => false,
+        Mode::OpaqueFill => false,
+        Mode::TransparentFill => false,
+        Mode::BlockStipple => false,
+        Mode::BlockFill => false,
+        Mode::Copy => false,
+        Mode::OpaqueLine => true,
+        Mode::TransparentLine => true,
+        Mode::Unlisted => false,
+    }
+}
+
+// The opaque one.
+pub fn is_opaque_line(m: Mode) -> bool
+    ensures { λ r. ⌜ r ≡ isOpaqueLine m ⌝ }
+{
+    match m {
+        Mode::Simple => false,
+        Mode::OpaqueStipple => false,
+        Mode::TransparentStipple => false,
+        Mode::OpaqueFill => false,
+        Mode::TransparentFill => false,
+        Mode::BlockStipple => false,
+        Mode::BlockFill => false,
+        Mode::Copy => false,
+        Mode::OpaqueLine => true,
+        Mode::TransparentLine => false,
+        Mode::Unlisted => false,
     }
 }

@@ -1,4 +1,4 @@
-// The words that a span takes of registers, eight pixels each, and its masks: made once, before any pixel is drawn.
+// The words that a span takes of registers, eight pixels each, and its masks: made once, before any pixel is drawn. And the byte of a single pixel.
 ghost use mathlib.Core.Path.{_≡_};
 ghost use mathlib.Core.Bool.{cond};
 ghost use mathlib.Core.List.{[], _∷_};
@@ -16,8 +16,15 @@ fn solid(x: u32, at: usize) -> u64
     words::turned(words::pair(x, x), at)
 }
 
+// Byte (address mod 4) of a register.
+pub fn byte_at(x: u32, address: usize) -> u8
+    ensures { λ r. ⌜ r ≡ byte x (address % 4) ⌝ }
+{
+    ((x >> (8 * (address % 4))) % 0x100) as u8
+}
+
 // The plane mask outside the held planes, all four bytes at once.
-fn planes(plane: u32, held: u32) -> u32
+pub fn planes(plane: u32, held: u32) -> u32
     ensures { λ r. ⌜ ((p : ℕ) → byte r (p % 4) ≡ effectiveBy plane held p) ⌝ }
 {
     plane ^ (plane & held % 256 * 0x0101_0101)

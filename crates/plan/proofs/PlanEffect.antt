@@ -1,4 +1,4 @@
--- What an accepted write shows, counts and leaves is what its plan draws and its plan's effect. Assumes nothing.
+-- What an accepted write that is no line and no continue shows, counts and leaves is what its plan draws and its plan's effect. Assumes nothing.
 use mathlib.Core.Path.{_≡_, refl, ap, ap₂, sym, _∙_, subst}
 use mathlib.Core.Bool.{Bool, true, false, cond, not, _&&_, _||_}
 use mathlib.Core.List.{List}
@@ -16,12 +16,13 @@ use Rattle.card.specs.Access.{stores}
 use Rattle.card.specs.declared.Card.{Card}
 use Rattle.card.specs.declared.Write.{Write}
 use Rattle.card.specs.declared.Register.the-variants.{CopySource, CopyDestination}
+use Rattle.rules.specs.Lines.{walks}
 use Rattle.rules.specs.Modes.{modeOf, isBlock, isCopy, effective, registerOf, frameSpan}
 use Rattle.plan.specs.Plan.{frameEffect, framePlan, planOf, isWhole, planned, drawable, reads, loads, left}
 use Rattle.rules.specs.Refusal.{refusal}
-use Rattle.rules.specs.Writes.{count, operation, picture, usedUp, alternated, afterFrame, afterRegister, next}
+use Rattle.rules.specs.Writes.{count, operation, picture, usedUp, alternated, movedLine, afterFrame, afterRegister, next}
 use Rattle.rules.specs.declared.Mode.{Mode}
-use Rattle.rules.specs.declared.Mode.the-variants.{Simple, OpaqueStipple, TransparentStipple, OpaqueFill, TransparentFill, BlockStipple, BlockFill, Copy, Unlisted}
+use Rattle.rules.specs.declared.Mode.the-variants.{Simple, OpaqueStipple, TransparentStipple, OpaqueFill, TransparentFill, BlockStipple, BlockFill, Copy, OpaqueLine, TransparentLine, Unlisted}
 use Rattle.plan.specs.declared.Effect.{Effect}
 use Rattle.plan.specs.declared.Effect.the-variants.{UsesMask, ReadsSource, DrawsDestination, Stores, Loads, Unloads}
 use Rattle.plan.specs.declared.Plan.{Plan}
@@ -39,7 +40,7 @@ Within Loads w n = w .«data» + 64 ≤ n
 Within Unloads w n = Unit
 
 module _ (c : Card) (w : Write) where
-  module _ (v : List ℕ) (ok : refusal c w (length v) ≡ 0) where
+  module _ (still : walks c w ≡ false) (v : List ℕ) (ok : refusal c w (length v) ≡ 0) where
     raster-kept : c .registers .raster % 16 ≡ c .registers .raster
     raster-kept = mod-eq-of-lt (accepted-raster c w (length v) ok)
 
@@ -68,20 +69,20 @@ module _ (c : Card) (w : Write) where
     pub planned-shows : picture c w v ≡ drawn (planOf c w .op) (spanned (effective c) (planned (planOf c w) c)) v
     planned-shows =
         picture-accepted c w v ok
-        ∙ (sym (planned-draws c w .1 (operation c w) v)
+        ∙ (sym (planned-draws c w still .1 (operation c w) v)
         ∙ ap (λ (op : ℕ). drawn op (spanned (effective c) (planned (planOf c w) c)) v) (sym planned-operation))
 
     -- which can be drawn
     pub planned-drawable : drawable (planOf c w) (length v) ≡ true
     unfolding drawable
-    planned-drawable = rw (le-ltb _ _ (planned-inside c w v ok)) (wide (isWhole (planOf c w .paint)) (planned-whole c w))
+    planned-drawable = rw (le-ltb _ _ (planned-inside c w still v ok)) (wide (isWhole (planOf c w .paint)) (planned-whole c w))
       where
         wide : {n : ℕ} (b : Bool) → (b ≡ true → n ≡ 64) → not b || eqb n 64 ≡ true
         wide true e = eq-eqb _ _ (e refl)
         wide false e = refl
 
     pub planned-counts : count c w (length v) ≡ enabledIn (planned (planOf c w) c)
-    planned-counts = count-accepted c w v ok ∙ sym (planned-draws c w .2)
+    planned-counts = count-accepted c w v ok ∙ sym (planned-draws c w still .2)
 
     -- what the effect reads lies inside VRAM
     planned-within : Within (planOf c w .effect) w (length v)
@@ -101,6 +102,8 @@ module _ (c : Card) (w : Write) where
         mode BlockStipple h = tt
         mode BlockFill h = tt
         mode Copy h = copy (isSet (c .copier .writing)) h
+        mode OpaqueLine h = tt
+        mode TransparentLine h = tt
         mode Unlisted h = tt
 
         register : (s d : Bool) → plan c w s d .first + plan c w s d .width ≤ length v → Within (plan c w s d .effect) w (length v)
@@ -109,7 +112,7 @@ module _ (c : Card) (w : Write) where
         register false false h = tt
 
         reach : (p : Plan) → planOf c w ≡ p → p .first + p .width ≤ length v
-        reach p e = subst (λ (x : Plan). x .first + x .width ≤ length v) e (planned-inside c w v ok)
+        reach p e = subst (λ (x : Plan). x .first + x .width ≤ length v) e (planned-inside c w still v ok)
 
         go : Dec (w .space ≡ 1) → Within (planOf c w .effect) w (length v)
         go (yes h) =
@@ -123,7 +126,7 @@ module _ (c : Card) (w : Write) where
     frame-leaves : (copies writing : Bool) → isSet (c .copier .writing) ≡ writing
         → Within (cond copies (cond writing DrawsDestination ReadsSource) UsesMask) w (length v)
         → left (cond copies (cond writing DrawsDestination ReadsSource) UsesMask) c w v
-        ≡ record { registers = c .registers; mask = usedUp (c .mask); copier = alternated copies (c .copier) w v; held = c .held }
+        ≡ record { registers = c .registers; mask = usedUp (c .mask); copier = alternated copies (c .copier) w v; line = c .line; held = c .held }
     unfolding left reads
     frame-leaves false writing e h = refl
     frame-leaves true true e h = rw e
@@ -131,13 +134,13 @@ module _ (c : Card) (w : Write) where
 
     register-leaves : (s d : Bool) → registerOf w is CopySource ≡ s → registerOf w is CopyDestination ≡ d
         → Within (plan c w s d .effect) w (length v) → left (plan c w s d .effect) c w v ≡ afterRegister c w v
-    unfolding left loads afterRegister stores
-    register-leaves true d es ed h = rw (eqb-true (code (registerOf w)) (code CopySource) es, le-leb _ _ h)
-    register-leaves false true es ed h = rw (eqb-true (code (registerOf w)) (code CopyDestination) ed)
-    register-leaves false false es ed h = rw (es, ed)
+    unfolding left loads afterRegister movedLine stores
+    register-leaves true d es ed h = rw (still, eqb-true (code (registerOf w)) (code CopySource) es, le-leb _ _ h)
+    register-leaves false true es ed h = rw (still, eqb-true (code (registerOf w)) (code CopyDestination) ed)
+    register-leaves false false es ed h = rw (still, es, ed)
 
     pub planned-leaves : next c w v ≡ left (planOf c w .effect) c w v
-    unfolding afterFrame
+    unfolding afterFrame movedLine
     planned-leaves = go (ℕ-discrete (w .space) 1)
       where
         go : Dec (w .space ≡ 1) → next c w v ≡ left (planOf c w .effect) c w v
@@ -147,7 +150,7 @@ module _ (c : Card) (w : Write) where
             ∙ register-leaves (registerOf w is CopySource) (registerOf w is CopyDestination) refl refl
             (subst (λ (p : Plan). Within (p .effect) w (length v)) (register-plan c w h) planned-within))
         go (no h) =
-            next-frame c w v ok h
+            (next-frame c w v ok h ∙ rw still)
             ∙ sym (ap (λ (p : Plan). left (p .effect) c w v) (frame-plan c w h)
             ∙ frame-leaves (isCopy (modeOf (c .registers .mode))) (isSet (c .copier .writing)) refl
             (subst (λ (p : Plan). Within (p .effect) w (length v)) (frame-plan c w h) planned-within))

@@ -22,11 +22,12 @@ use Rattle.card.specs.Registers.{rowAt, isSet, _is_}
 use Rattle.card.specs.declared.Card.{Card}
 use Rattle.card.specs.declared.Write.{Write}
 use Rattle.card.specs.declared.Register.the-variants.{CopySource, CopyDestination}
-use Rattle.rules.specs.Modes.{modeOf, foreground, background, effective, fillFirst, registerOf, registerSpans, frameSpan, spansOf}
+use Rattle.rules.specs.Modes.{modeOf, foreground, background, effective, fillFirst, registerOf, registerSpans, frameSpan}
+use Rattle.rules.specs.Lines.{walks, spansOf}
 use Rattle.plan.specs.Plan.{framePlan, registerPlanBy, registerPlan, planOf, planned, isWhole}
 use Rattle.rules.specs.Refusal.{past}
 use Rattle.rules.specs.declared.Mode.{Mode}
-use Rattle.rules.specs.declared.Mode.the-variants.{Simple, OpaqueStipple, TransparentStipple, OpaqueFill, TransparentFill, BlockStipple, BlockFill, Copy, Unlisted}
+use Rattle.rules.specs.declared.Mode.the-variants.{Simple, OpaqueStipple, TransparentStipple, OpaqueFill, TransparentFill, BlockStipple, BlockFill, Copy, OpaqueLine, TransparentLine, Unlisted}
 use Rattle.plan.specs.declared.Plan.{Plan}
 use Rattle.rules.proofs.Tests.{or-false}
 use Rattle.plan.proofs.WordBits.{first-turn, bit-word, bit-both, bit-rotated}
@@ -59,6 +60,8 @@ module _ (c : Card) (w : Write) where
   plan-on BlockStipple j h = first-turn _ j h
   plan-on BlockFill j h = bit-rotated _ _ j
   plan-on Copy j h = gate (isSet (c .copier .writing)) (w .«data») j h
+  plan-on OpaqueLine j h = absurd (not-suc-le-zero h)
+  plan-on TransparentLine j h = absurd (not-suc-le-zero h)
   plan-on Unlisted j h = absurd (not-suc-le-zero h)
 
   plan-takes : (m : Mode) (j : ℕ) → j < frameSpan m c w .width → planned (framePlan m c w) c .takes j ≡ frameSpan m c w .takes j
@@ -71,6 +74,8 @@ module _ (c : Card) (w : Write) where
   plan-takes BlockStipple j h = tiled-blocks (c .registers .block) _
   plan-takes BlockFill j h = tiled-blocks (c .registers .block) _
   plan-takes Copy j h = let e : j % 32 ≡ j = omega arith in ap (λ (t : ℕ). getD (c .copier .buffer) t 0) e
+  plan-takes OpaqueLine j h = absurd (not-suc-le-zero h)
+  plan-takes TransparentLine j h = absurd (not-suc-le-zero h)
   plan-takes Unlisted j h = absurd (not-suc-le-zero h)
 
   -- a register write, by whether it is the 64-byte copy's source or destination
@@ -120,9 +125,10 @@ module _ (c : Card) (w : Write) where
     counted-none 0 _ (none-on (plan false false) refl),
   )
 
-  pub planned-draws : Draws (planOf c w) (spansOf c w)
+  -- of a write that is no line and no continue
+  pub planned-draws : walks c w ≡ false → Draws (planOf c w) (spansOf c w)
   unfolding planOf spansOf
-  planned-draws = go (eqb (w .space) 1)
+  planned-draws e = rw e (go (eqb (w .space) 1))
     where
       go : (b : Bool) → Draws (cond b (registerPlan (registerOf w) c w) (framePlan (modeOf (c .registers .mode)) c w))
           (cond b (registerSpans (registerOf w) c w) (frameSpan (modeOf (c .registers .mode)) c w ∷ []))
@@ -151,6 +157,8 @@ module _ (c : Card) (w : Write) where
       mode BlockStipple e = absurd (false≢true e)
       mode BlockFill e = absurd (false≢true e)
       mode Copy e = absurd (false≢true e)
+      mode OpaqueLine e = absurd (false≢true e)
+      mode TransparentLine e = absurd (false≢true e)
       mode Unlisted e = absurd (false≢true e)
 
       register : (s d : Bool) → isWhole (plan s d .paint) ≡ true → plan s d .width ≡ 64

@@ -15,12 +15,13 @@ use Rattle.card.specs.declared.Card.{Card}
 use Rattle.card.specs.declared.Copier.{Copier}
 use Rattle.card.specs.declared.Write.{Write}
 use Rattle.card.specs.declared.Register.{Register}
-use Rattle.card.specs.declared.Register.the-variants.{Mode as ModeRegister, RasterOperation, PixelShift, CopySource, CopyDestination, Missing}
-use Rattle.rules.specs.Modes.{modeOf, unlisted, isSimple, isBlock, isCopy, fillLow, fillFirst, frameSpan, registerOf}
+use Rattle.card.specs.declared.Register.the-variants.{Mode as ModeRegister, RasterOperation, PixelShift, Continue, CopySource, CopyDestination, Missing}
+use Rattle.rules.specs.Modes.{modeOf, unlisted, isSimple, isBlock, isCopy, isLine, fillLow, fillFirst, frameSpan, registerOf}
+use Rattle.rules.specs.Lines.{visitsOf, visitCount, strays, wild}
 use Rattle.rules.specs.Refusal.{badLength, badSpace, firstHolding}
 use Rattle.rules.specs.Writes.{usedUp, sourced}
 use Rattle.rules.specs.declared.Mode.{Mode}
-use Rattle.rules.specs.declared.Mode.the-variants.{Simple, OpaqueStipple, TransparentStipple, OpaqueFill, TransparentFill, BlockStipple, BlockFill, Copy, Unlisted}
+use Rattle.rules.specs.declared.Mode.the-variants.{Simple, OpaqueStipple, TransparentStipple, OpaqueFill, TransparentFill, BlockStipple, BlockFill, Copy, OpaqueLine, TransparentLine, Unlisted}
 use Rattle.plan.specs.declared.Effect.{Effect}
 use Rattle.plan.specs.declared.Effect.the-variants.{UsesMask, ReadsSource, DrawsDestination, Stores, Loads, Unloads}
 use Rattle.plan.specs.declared.Faults.{Faults}
@@ -48,7 +49,8 @@ registerFaults g c w =
     record {
       lanes = not (eqb (w .lanes) 15);
       register = g is Missing;
-      mode = unlisted (modeOf (c .registers .mode)) || (g is ModeRegister && unlisted (modeOf (w .«data»)));
+      mode = unlisted (modeOf (c .registers .mode)) || (g is ModeRegister && unlisted (modeOf (w .«data»)))
+          || (g is Continue && not (isLine (modeOf (c .registers .mode))));
       raster = ltb 15 (c .registers .raster) || (g is RasterOperation && not (eqb (w .«data» / 2 ^ 8 % 16) 0))
           || (g is PixelShift && not (eqb (w .«data» % 16) 0));
       address = (g is CopySource || g is CopyDestination) && not (eqb (w .«data» % 64) 0);
@@ -73,6 +75,8 @@ enableOf TransparentFill c w = fillOf c w
 enableOf BlockStipple c w = w .«data»
 enableOf BlockFill c w = fillOf c w
 enableOf Copy c w = cond (isSet (c .copier .writing)) (w .«data») 0
+enableOf OpaqueLine c w = 0
+enableOf TransparentLine c w = 0
 enableOf Unlisted c w = 0
 
 -- one word for all pixels, and block colours 0 and 1
@@ -91,12 +95,14 @@ paintOf TransparentFill c w = solid (c .registers .foreground) (fillFirst w)
 paintOf BlockStipple c w = blocks c (w .address)
 paintOf BlockFill c w = blocks c (fillFirst w)
 paintOf Copy c w = Half
+paintOf OpaqueLine c w = Half
+paintOf TransparentLine c w = Half
 paintOf Unlisted c w = Half
 
 abbrev pub frameEffect : Mode → Card → Effect
 frameEffect m c = cond (isCopy m) (cond (isSet (c .copier .writing)) DrawsDestination ReadsSource) UsesMask
 
--- of a frame write
+-- of a frame write. A line's plan draws nothing: what is at fault with the write is told from it, and its walk is gone apart (crate `walks`)
 abbrev pub framePlan : Mode → Card → Write → Plan
 framePlan m c w =
     record {
@@ -184,6 +190,15 @@ firstOf [] bs = 0
 firstOf (k ∷ ks) [] = 0
 firstOf (k ∷ ks) (b ∷ bs) = cond b k (firstOf ks bs)
 
+-- the number of a write that walks and has nothing else at fault
+unfoldable pub walkNumber : Card → Write → ℕ → ℕ
+walkNumber c w n =
+    firstHolding
+    ((8, strays n (visitsOf c w))
+    ∷ (12, wild (c .registers .bresenham1) (c .registers .bresenham2) (visitsOf c w))
+    ∷ (13, eqb (visitCount c w) 0)
+    ∷ [])
+
 -- the whole copy buffer is taken
 abbrev pub isWhole : Paint → Bool
 isWhole (Stippled bits foreground background at) = false
@@ -209,10 +224,10 @@ drawable p n = not (ltb n (p .first + p .width)) && (not (isWhole (p .paint)) ||
 
 -- the card that it leaves
 abbrev withCopier : Card → Copier → Card
-withCopier c k = record { registers = c .registers; mask = c .mask; copier = k; held = c .held }
+withCopier c k = record { registers = c .registers; mask = c .mask; copier = k; line = c .line; held = c .held }
 
 abbrev used : Card → Copier → Card
-used c k = record { registers = c .registers; mask = usedUp (c .mask); copier = k; held = c .held }
+used c k = record { registers = c .registers; mask = usedUp (c .mask); copier = k; line = c .line; held = c .held }
 
 -- the copier that has read pixels; its buffer stays where they do not all lie inside VRAM
 unfoldable pub reads : Copier → Write → List ℕ → Copier

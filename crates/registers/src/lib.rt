@@ -45,6 +45,11 @@ pub fn plan(card: Card, w: Write) -> Plan
             faults.raster = or(faults.raster, data % 16 != 0);
             storing(faults, op, register, value)
         }
+        Register::Continue => {
+            let m = modes::mode_of(card.registers.mode);
+            faults.mode = or(faults.mode, !modes::is_line(m));
+            storing(faults, op, register, value)
+        }
         Register::CopySource => {
             faults.address = data % 64 != 0;
             copying(faults, op, data, 0, Effect::Loads)

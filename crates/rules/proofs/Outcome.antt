@@ -14,7 +14,8 @@ use Rattle.span.specs.Layers.{drawnAll, changedAll, summed}
 use Rattle.span.specs.Spans.{spanned, enabledIn}
 use Rattle.card.specs.declared.Card.{Card}
 use Rattle.card.specs.declared.Write.{Write}
-use Rattle.rules.specs.Modes.{effective, spansOf}
+use Rattle.rules.specs.Modes.{effective}
+use Rattle.rules.specs.Lines.{spansOf}
 use Rattle.rules.specs.Refusal.{badSpace, badRaster, rows, firstHolding, refusal}
 use Rattle.rules.specs.Writes.{count, layers, operation, picture, changed, afterFrame, afterRegister, next}
 use Rattle.rules.proofs.Tests.{neither}

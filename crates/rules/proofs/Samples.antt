@@ -13,9 +13,10 @@ use Rattle.card.specs.Registers.{rowAt, rowIn, table}
 use Rattle.card.specs.Access.{stores}
 use Rattle.card.specs.Reset.{resetCard}
 use Rattle.span.specs.Spans.{spanned}
-use Rattle.rules.specs.Modes.{modeOf, frameSpan, spansOf, effectiveBy}
-use Rattle.rules.specs.Refusal.{badLength, badSpace, badLanes, noRegister, badMode, badRaster, offBoundary, outside, unloaded, refusal}
-use Rattle.rules.specs.Writes.{count, operation, layers, picture, changed, sourced, afterFrame, afterRegister, next}
+use Rattle.rules.specs.Modes.{modeOf, frameSpan, effectiveBy}
+use Rattle.rules.specs.Lines.{walks, spansOf}
+use Rattle.rules.specs.Refusal.{badLength, badSpace, badLanes, noRegister, badMode, badRaster, offBoundary, outside, unloaded, wildWalk, noLine, refusal}
+use Rattle.rules.specs.Writes.{count, operation, layers, picture, changed, sourced, movedLine, afterFrame, afterRegister, next}
 use Rattle.rules.specs.Sequences.{cardAfter, pictureAfter}
 
 -- a frame write with all four lanes, and a register write
@@ -148,7 +149,7 @@ Changes =
     × (changes [] (reg 0x0164 0) ≡ 0)
 
 computed : (S1 × S2 × S3 × S4 × S5 × S6 × S7 × S8 × S9 × S10 × S11) × Overlap × HeldCopy × SlidFills × LowestFirst × Changes
-unfolding cardAfter pictureAfter refusal badLength badSpace badLanes noRegister badMode badRaster offBoundary outside unloaded modeOf frameSpan spansOf spanned effectiveBy count operation layers picture changed sourced afterFrame afterRegister next resetCard rowAt rowIn table stores byte from before drawn drawnAll changedAll counted differing listed made number result bit
+unfolding cardAfter pictureAfter refusal badLength badSpace badLanes noRegister badMode badRaster offBoundary outside unloaded wildWalk noLine walks movedLine modeOf frameSpan spansOf spanned effectiveBy count operation layers picture changed sourced afterFrame afterRegister next resetCard rowAt rowIn table stores byte from before drawn drawnAll changedAll counted differing listed made number result bit
 computed = (((refl, refl), (refl, refl), refl, (refl, refl), refl, (refl, refl), refl, (refl, refl), s9, (refl, refl, refl), refl), refl, refl, (refl, refl, refl, refl), (refl, refl), (refl, refl, refl, refl, refl, refl, refl, refl, refl, refl, refl))
 
 pub samples : S1 × S2 × S3 × S4 × S5 × S6 × S7 × S8 × S9 × S10 × S11

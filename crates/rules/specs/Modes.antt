@@ -14,7 +14,7 @@ use Rattle.card.specs.declared.Write.{Write}
 use Rattle.card.specs.declared.Register.{Register}
 use Rattle.card.specs.declared.Register.the-variants.{CopySource, CopyDestination}
 use Rattle.rules.specs.declared.Mode.{Mode}
-use Rattle.rules.specs.declared.Mode.the-variants.{Simple, OpaqueStipple, TransparentStipple, OpaqueFill, TransparentFill, BlockStipple, BlockFill, Copy, Unlisted}
+use Rattle.rules.specs.declared.Mode.the-variants.{Simple, OpaqueStipple, TransparentStipple, OpaqueFill, TransparentFill, BlockStipple, BlockFill, Copy, OpaqueLine, TransparentLine, Unlisted}
 
 -- a mode and its code
 pub record Coded : Type 0 where
@@ -24,7 +24,7 @@ pub record Coded : Type 0 where
 abbrev coded : ℕ → Mode → Coded
 coded n m = record { code = n; mode = m }
 
--- the mode codes; where the manual (000) and Linux have others: docs/CHIP.md
+-- the mode codes; where the manual (000) and Linux have others: docs/CHIP.md. The cap bit, bit 15, is allowed in the line modes only (Ask 5)
 abbrev pub modes : List Coded
 modes =
     coded 0x00 Simple
@@ -35,6 +35,10 @@ modes =
     ∷ coded 0x0D BlockStipple
     ∷ coded 0x2D BlockFill
     ∷ coded 0x07 Copy
+    ∷ coded 0x02 OpaqueLine
+    ∷ coded 0x06 TransparentLine
+    ∷ coded 0x8002 OpaqueLine
+    ∷ coded 0x8006 TransparentLine
     ∷ []
 
 abbrev pub modeIn : List Coded → ℕ → Mode
@@ -55,6 +59,8 @@ unlisted TransparentFill = false
 unlisted BlockStipple = false
 unlisted BlockFill = false
 unlisted Copy = false
+unlisted OpaqueLine = false
+unlisted TransparentLine = false
 unlisted Unlisted = true
 
 -- simple mode
@@ -67,6 +73,8 @@ isSimple TransparentFill = false
 isSimple BlockStipple = false
 isSimple BlockFill = false
 isSimple Copy = false
+isSimple OpaqueLine = false
+isSimple TransparentLine = false
 isSimple Unlisted = false
 
 -- copy mode
@@ -79,6 +87,8 @@ isCopy TransparentFill = false
 isCopy BlockStipple = false
 isCopy BlockFill = false
 isCopy Copy = true
+isCopy OpaqueLine = false
+isCopy TransparentLine = false
 isCopy Unlisted = false
 
 -- the block modes
@@ -91,7 +101,36 @@ isBlock TransparentFill = false
 isBlock BlockStipple = true
 isBlock BlockFill = true
 isBlock Copy = false
+isBlock OpaqueLine = false
+isBlock TransparentLine = false
 isBlock Unlisted = false
+
+-- the line modes, and the opaque one
+abbrev pub isLine : Mode → Bool
+isLine Simple = false
+isLine OpaqueStipple = false
+isLine TransparentStipple = false
+isLine OpaqueFill = false
+isLine TransparentFill = false
+isLine BlockStipple = false
+isLine BlockFill = false
+isLine Copy = false
+isLine OpaqueLine = true
+isLine TransparentLine = true
+isLine Unlisted = false
+
+abbrev pub isOpaqueLine : Mode → Bool
+isOpaqueLine Simple = false
+isOpaqueLine OpaqueStipple = false
+isOpaqueLine TransparentStipple = false
+isOpaqueLine OpaqueFill = false
+isOpaqueLine TransparentFill = false
+isOpaqueLine BlockStipple = false
+isOpaqueLine BlockFill = false
+isOpaqueLine Copy = false
+isOpaqueLine OpaqueLine = true
+isOpaqueLine TransparentLine = false
+isOpaqueLine Unlisted = false
 
 -- no pixel at all
 abbrev nothing : Span
@@ -129,7 +168,7 @@ fillWidth w = w .«data» % 2 ^ 11 + 1
 abbrev pub fillBit : Card → Write → ℕ → Bool
 fillBit c w j = bit (c .registers .fill) ((j + fillLow w) % 32)
 
--- the span of a frame write
+-- the span of a frame write; what a line draws stands in Lines
 unfoldable pub frameSpan : Mode → Card → Write → Span
 frameSpan Simple c w = span (w .address) 4 (λ i. bit (w .lanes) i && bit (c .mask .bits) i) (λ i. byte (w .«data») i)
 frameSpan OpaqueStipple c w =
@@ -143,6 +182,8 @@ frameSpan TransparentFill c w = span (fillFirst w) (fillWidth w) (λ j. fillBit 
 frameSpan BlockStipple c w = span (w .address) 32 (λ i. bit (w .«data») i) (λ i. colour c (w .address + i))
 frameSpan BlockFill c w = span (fillFirst w) (fillWidth w) (λ j. fillBit c w j) (λ j. colour c (fillFirst w + j))
 frameSpan Copy c w = span (w .address) 32 (λ i. isSet (c .copier .writing) && bit (w .«data») i) (λ i. getD (c .copier .buffer) i 0)
+frameSpan OpaqueLine c w = nothing
+frameSpan TransparentLine c w = nothing
 frameSpan Unlisted c w = nothing
 
 -- the spans of a register write: the 64-byte copy's, whose data is the address; every other has none
@@ -154,7 +195,3 @@ registerSpans g c w =
 -- the register that a write names
 abbrev pub registerOf : Write → Register
 registerOf w = rowAt (w .address) .register
-
--- the spans of any write, in the order in which they are drawn
-unfoldable pub spansOf : Card → Write → List Span
-spansOf c w = cond (eqb (w .space) 1) (registerSpans (registerOf w) c w) (frameSpan (modeOf (c .registers .mode)) c w ∷ [])

@@ -1,4 +1,4 @@
--- Scope paper, "Numbers returned", 1 to 9. A refusal looks at the card, the write and the length of VRAM, never at the picture.
+-- Scope paper, "Numbers returned", 1 to 9, and Ask 5's 12 and 13. A refusal looks at the card, the write and the length of VRAM, never at the picture.
 use mathlib.Core.Bool.{Bool, false, cond, not, _&&_, _||_}
 use mathlib.Core.List.{List, [], _∷_}
 use Prim.Native.Nat.{ℕ, _+_, _/_, _%_, _^_}
@@ -7,9 +7,10 @@ use Rattle.card.specs.Registers.{isSet, _is_}
 use Rattle.card.specs.declared.Card.{Card}
 use Rattle.card.specs.declared.Write.{Write}
 use Rattle.card.specs.declared.Register.{Register}
-use Rattle.card.specs.declared.Register.the-variants.{Mode, RasterOperation, PixelShift, CopySource, CopyDestination, Missing}
+use Rattle.card.specs.declared.Register.the-variants.{Mode, RasterOperation, PixelShift, Continue, CopySource, CopyDestination, Missing}
 use Rattle.span.specs.Spans.{Span}
-use Rattle.rules.specs.Modes.{modeOf, unlisted, isSimple, isCopy, registerOf, spansOf}
+use Rattle.rules.specs.Modes.{modeOf, unlisted, isSimple, isCopy, isLine, registerOf}
+use Rattle.rules.specs.Lines.{walks, visitsOf, strays, wild, spansOf}
 
 -- the write is a write of this register
 abbrev pub names : Write → Register → Bool
@@ -35,9 +36,11 @@ badLanes c w = (eqb (w .space) 1 || not (isSimple (modeOf (c .registers .mode)))
 unfoldable pub noRegister : Write → Bool
 noRegister w = names w Missing
 
--- 5: a mode write of a value that is no listed code, or a card handed in with one
+-- 5: a mode write of a value that is no listed code, or a card handed in with one; a continue outside the line modes
 unfoldable pub badMode : Card → Write → Bool
-badMode c w = unlisted (modeOf (c .registers .mode)) || (names w Mode && unlisted (modeOf (w .«data»)))
+badMode c w =
+    unlisted (modeOf (c .registers .mode)) || (names w Mode && unlisted (modeOf (w .«data»)))
+    || (names w Continue && not (isLine (modeOf (c .registers .mode))))
 
 -- 6: raster-operation write with any of bits 11:8 set, pixel-shift write with any of bits 3:0 set,
 -- or a card handed in with a raster operation above 15
@@ -57,13 +60,21 @@ abbrev pub past : ℕ → List Span → Bool
 past n [] = false
 past n (s ∷ ss) = ltb n (s .first + s .width) || past n ss
 
--- 8: a pixel of the spans, masked or not, lies outside VRAM
+-- 8: a pixel of the spans, masked or not, lies outside VRAM; of a line or a continue any visited place, drawn or not
 unfoldable pub outside : Card → Write → ℕ → Bool
-outside c w n = past n (spansOf c w)
+outside c w n = cond (walks c w) (strays n (visitsOf c w)) (past n (spansOf c w))
 
 -- 9: 64-byte destination write with no 64-byte source loaded
 unfoldable pub unloaded : Card → Write → Bool
 unloaded c w = names w CopyDestination && not (isSet (c .copier .loaded))
+
+-- 12: an error of the walk lies outside signed 16 bits
+unfoldable pub wildWalk : Card → Write → Bool
+wildWalk c w = walks c w && wild (c .registers .bresenham1) (c .registers .bresenham2) (visitsOf c w)
+
+-- 13: a continue before any accepted line
+unfoldable pub noLine : Card → Write → Bool
+noLine c w = names w Continue && not (isSet (c .line .kept))
 
 -- each number and its test, in the order in which they are tried
 abbrev pub rows : Card → Write → ℕ → List (ℕ × Bool)
@@ -77,6 +88,8 @@ rows c w n =
     ∷ (7, offBoundary c w)
     ∷ (8, outside c w n)
     ∷ (9, unloaded c w)
+    ∷ (12, wildWalk c w)
+    ∷ (13, noLine c w)
     ∷ []
 
 -- the first number whose test holds, or 0

@@ -8,12 +8,15 @@ use lib.Dec.{T, eqb}
 use lib.ListN.{length}
 use Rattle.raster.specs.Operations.{restoring}
 use Rattle.raster.specs.Pixel.{Operations, only, _then_}
+use Rattle.span.specs.Layers.{Pairs}
 use Rattle.card.specs.Registers.{isSet, _is_}
 use Rattle.card.specs.declared.Card.{Card}
 use Rattle.card.specs.declared.Write.{Write}
 use Rattle.card.specs.declared.Register.the-variants.{CopySource}
 use Rattle.rules.specs.Modes.{modeOf, isCopy, registerOf}
+use Rattle.rules.specs.Lines.{walks, visitsOf, addressOf}
 use Rattle.rules.specs.Refusal.{refusal}
+use Rattle.rules.specs.declared.Visit.{Visit}
 use Rattle.rules.specs.Writes.{accepted, count, inBlockMode, next, picture, changed}
 
 -- a list of writes, each handed the card and the picture that the one before left, refused ones included
@@ -41,11 +44,15 @@ withOperation a c =
         plane = r .plane;
         mode = r .mode;
         raster = r .raster / 16 * 16 + a % 16;
+        bresenham1 = r .bresenham1;
+        bresenham2 = r .bresenham2;
+        bresenham3 = r .bresenham3;
         fill = r .fill;
         block = r .block;
       };
       mask = c .mask;
       copier = c .copier;
+      line = c .line;
       held = c .held;
     }
 
@@ -61,6 +68,14 @@ drawnWithEach (ops then a) c w v = drawnWith a c w (drawnWithEach ops c w v)
 -- a draw obeys the raster operation unless it is a frame write in a block mode
 abbrev pub obeys : Card → Write → Bool
 obeys c w = not (inBlockMode c w)
+
+-- no two visits have one place
+abbrev pub Different : List Visit → Type 0
+Different ss = Pairs (λ s t. addressOf s ≡ addressOf t → ⊥) ss
+
+-- the write, in a VRAM of n bytes, visits no pixel twice: that is asked of an accepted line or continue alone
+abbrev pub VisitsOnce : Card → Write → ℕ → Type 0
+VisitsOnce c w n = accepted c w n ≡ true → walks c w ≡ true → Different (visitsOf c w)
 
 -- p holds of each draw of the list: of its operation and of the picture that it gets
 abbrev pub EachDraw : (ℕ → List ℕ → Type 0) → Operations → Card → Write → List ℕ → Type 0

@@ -13,11 +13,13 @@ use Rattle.card.specs.Registers.{rowAt, isSet, _is_}
 use Rattle.card.specs.Access.{stores}
 use Rattle.card.specs.declared.Card.{Card}
 use Rattle.card.specs.declared.Copier.{Copier}
+use Rattle.card.specs.declared.Line.{Line}
 use Rattle.card.specs.declared.Mask.{Mask}
 use Rattle.card.specs.declared.Write.{Write}
 use Rattle.card.specs.declared.Register.{Register}
 use Rattle.card.specs.declared.Register.the-variants.{CopySource, CopyDestination}
-use Rattle.rules.specs.Modes.{modeOf, isCopy, isBlock, registerOf, spansOf, effective}
+use Rattle.rules.specs.Modes.{modeOf, isCopy, isBlock, registerOf, effective}
+use Rattle.rules.specs.Lines.{walks, lineLeft, spansOf}
 use Rattle.rules.specs.Refusal.{refusal}
 
 abbrev pub accepted : Card → Write → ℕ → Bool
@@ -65,6 +67,10 @@ alternated copies k w v =
       writing = cond reads 1 (cond copies 0 (k .writing));
     }
 
+-- what is kept for the next continue after an accepted write
+unfoldable pub movedLine : Card → Write → Line
+movedLine c w = cond (walks c w) (lineLeft c w) (c .line)
+
 -- after an accepted frame write
 unfoldable pub afterFrame : Card → Write → List ℕ → Card
 afterFrame c w v =
@@ -72,6 +78,7 @@ afterFrame c w v =
       registers = c .registers;
       mask = usedUp (c .mask);
       copier = alternated (isCopy (modeOf (c .registers .mode))) (c .copier) w v;
+      line = movedLine c w;
       held = c .held;
     }
 
@@ -89,7 +96,13 @@ unfoldable pub afterRegister : Card → Write → List ℕ → Card
 afterRegister c w v =
     let g = registerOf w in
     let stored = stores c g (bitAnd (w .«data») (rowAt (w .address) .kept)) in
-    record { registers = stored .registers; mask = stored .mask; copier = carried g (stored .copier) w v; held = stored .held }
+    record {
+      registers = stored .registers;
+      mask = stored .mask;
+      copier = carried g (stored .copier) w v;
+      line = movedLine c w;
+      held = stored .held;
+    }
 
 -- the next card
 unfoldable pub next : Card → Write → List ℕ → Card

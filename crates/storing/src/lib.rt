@@ -6,7 +6,7 @@ use card::Card;
 use card::Register;
 use card::SET;
 
-// The card with v stored in a register. The 64-byte copy has nothing to store here.
+// The card with v stored in a register. The 64-byte copy and continue have nothing to store here.
 pub fn store(card: Card, register: Register, v: u32) -> Card
     ensures { λ r. ⌜ r ≡ stores card register v ⌝ }
 {
@@ -41,6 +41,19 @@ pub fn store(card: Card, register: Register, v: u32) -> Card
             next.copier.writing = CLEAR;
             next
         }
+        Register::Bresenham1 => {
+            next.registers.bresenham1 = v;
+            next
+        }
+        Register::Bresenham2 => {
+            next.registers.bresenham2 = v;
+            next
+        }
+        Register::Bresenham3 => {
+            next.registers.bresenham3 = v;
+            next
+        }
+        Register::Continue => next,
         Register::PixelMask => {
             next.mask.bits = v;
             next.mask.marked = CLEAR;

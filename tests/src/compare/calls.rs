@@ -5,7 +5,7 @@ const CALLS: [(&str, &[u32]); 4] = [
     ("start", &[0, 1, 11]),
     ("append", &[0, 2, 10, 11]),
     ("check", &[0, 10]),
-    ("run", &[0, 1, 2, 3, 4, 5, 6, 7, 8, 9, 10]),
+    ("run", &[0, 1, 2, 3, 4, 5, 6, 7, 8, 9, 10, 12, 13]),
 ];
 
 #[derive(Clone, Copy)]
@@ -17,11 +17,11 @@ pub enum Call {
 }
 
 /// For each call, how often it gave each number.
-pub struct Calls([[u64; 12]; 4]);
+pub struct Calls([[u64; 14]; 4]);
 
 impl Calls {
     pub fn new() -> Calls {
-        Calls([[0; 12]; 4])
+        Calls([[0; 14]; 4])
     }
 
     pub fn add(&mut self, call: Call, number: u32) {

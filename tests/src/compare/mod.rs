@@ -17,8 +17,12 @@ use crate::generate::Maker;
 use crate::model::{self, Answer, Card, Write};
 use std::fmt::Debug;
 
-/// Cases below this number are runs of writes.
+/// Cases below this number are runs of writes and of stipples. Then come traces, calipers, serial lines and, last, waveform lines.
 const WRITE_CASES: u64 = writes::FIRST_STIPPLES + 700;
+const FIRST_CALIPER: u64 = WRITE_CASES + 4_000;
+const FIRST_SERIAL: u64 = FIRST_CALIPER + 1_000;
+const FIRST_LINES: u64 = FIRST_SERIAL + 3_000;
+pub const CASES: u64 = FIRST_LINES + 300;
 
 type Outcome = Result<(), String>;
 

@@ -1,6 +1,7 @@
-//! The plain implementation against the model: the cases of writes and stipples that `compare` gives the engine with the same seed.
+//! The plain implementation against the model: the cases of writes, stipples and lines that `compare` gives the engine with the same
+//! seed.
 
-use super::{all_reached, writes, Other, WRITE_CASES};
+use super::{all_reached, writes, Other, CASES, FIRST_LINES, WRITE_CASES};
 use crate::coverage::Coverage;
 use crate::fast;
 use crate::generate::Maker;
@@ -16,10 +17,14 @@ const PLAIN: Other = Other {
 /// Gives the number of writes that were compared.
 pub fn check_all() -> Result<u64, String> {
     let mut coverage = Coverage::new();
-    for case in 0..WRITE_CASES {
+    for case in (0..WRITE_CASES).chain(FIRST_LINES..CASES) {
         let mut maker = Maker::new(Random::of_case(SEED, case));
-        writes::case(&PLAIN, &mut maker, &mut coverage, case)
-            .map_err(|why| format!("plain implementation, seed {SEED} case {case}: {why}"))?;
+        let outcome = if case < WRITE_CASES {
+            writes::case(&PLAIN, &mut maker, &mut coverage, case)
+        } else {
+            writes::lines(&PLAIN, &mut maker, &mut coverage)
+        };
+        outcome.map_err(|why| format!("plain implementation, seed {SEED} case {case}: {why}"))?;
     }
     all_reached(&coverage.missing())?;
     Ok(coverage.all_writes())

@@ -8,6 +8,10 @@ use crate::model::{self, Answer, Card, Write};
 /// Cases from this number on are opaque stipples.
 pub const FIRST_STIPPLES: u64 = 1_000;
 
+/// After so many writes on average a case of lines goes on with another card.
+const LINES_A_CARD: u64 = 15;
+
+const LINES_A_CASE: usize = 300;
 const WRITES_A_CASE: usize = 300;
 const WRITES_A_SHORT_CASE: usize = 12;
 const STIPPLES_A_CASE: usize = 500;
@@ -67,6 +71,43 @@ fn stipples(other: &Other, maker: &mut Maker, coverage: &mut Coverage) -> Outcom
     Ok(())
 }
 
+/// Lines and continues, and what they go by, on a kept card and picture; now and then another card is handed in.
+pub fn lines(other: &Other, maker: &mut Maker, coverage: &mut Coverage) -> Outcome {
+    let length = if maker.random.one_in(2) {
+        maker.short_length()
+    } else {
+        4096
+    };
+    let first = picture(maker, length);
+    let mut vram = Pair::new(first.clone());
+    let mut card = fresh_card(other, maker)?;
+    for _ in 0..LINES_A_CASE {
+        if maker.random.one_in(LINES_A_CARD) {
+            card = handed_for_lines(maker);
+        }
+        let bad = maker.random.one_in(60);
+        let handed = if bad {
+            maker.bad_card(&card)
+        } else {
+            card.clone()
+        };
+        let write = maker.line(&handed, length);
+        let after = one_write(other, coverage, &handed, &mut vram, write)?;
+        card = if bad { card } else { after };
+    }
+    coverage.end_run(&first, &vram.model);
+    Ok(())
+}
+
+/// A card in a line mode with anything left behind, or one at reset, which has no line to go on with.
+fn handed_for_lines(maker: &mut Maker) -> Card {
+    if maker.random.one_in(4) {
+        model::reset(maker.held())
+    } else {
+        maker.line_card()
+    }
+}
+
 fn one_write(
     other: &Other,
     coverage: &mut Coverage,
@@ -88,7 +129,7 @@ fn one_write(
                 vram.model.len()
             )
         })?;
-    coverage.write(card, write, answer);
+    coverage.write(card, vram.model.len(), write, answer);
     Ok(ours)
 }
 

@@ -37,7 +37,8 @@ fn planes(card: &Card, first: u32) -> u64 {
     from_pixel(twice(card.plane), first) & !(u64::from(card.held & 0xFF) * 0x0101_0101_0101_0101)
 }
 
-fn drawn(card: &Card, source: u64, first: u32) -> Change {
+/// A source that pixel 0 would take from its byte 0 on, as the pixels from `first` on are drawn with it.
+pub fn drawn(card: &Card, source: u64, first: u32) -> Change {
     Change::new(card.raster, from_pixel(source, first), planes(card, first))
 }
 

@@ -56,6 +56,12 @@ pub struct Change {
 }
 
 impl Change {
+    /// Every pixel stays.
+    pub const NONE: Change = Change {
+        and: u64::MAX,
+        xor: 0,
+    };
+
     /// A source drawn with a raster operation, in the planes of a mask.
     pub fn new(operation: u32, source: u64, mask: u64) -> Change {
         let bit = |i: u32| 0u64.wrapping_sub(u64::from(operation >> i & 1));

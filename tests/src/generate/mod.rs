@@ -1,9 +1,10 @@
 //! Cards and writes that reach every mode, register, refusal and boundary.
 
+mod lines;
 mod stipples;
 
-use crate::listed::mode::{self, MODES};
-use crate::listed::{LARGEST_VRAM, OFFSETS};
+use crate::listed::mode::{self, LINES, MODES};
+use crate::listed::{BRESENHAM_1, BRESENHAM_2, BRESENHAM_3, LARGEST_VRAM, OFFSETS};
 use crate::model::{Card, Write, FRAME, REGISTER};
 use crate::random::Random;
 
@@ -13,15 +14,16 @@ pub struct Maker {
     last: u64,
 }
 
-/// Codes near the listed ones, among them those of the manual and of Linux.
-const UNLISTED_CODES: [u32; 12] = [
-    0x02, 0x03, 0x06, 0x10, 0x17, 0x23, 0x25, 0x4E, 0x65, 0x6D, 0x7F, 0x80,
+/// Codes near the listed ones, among them those of the manual and of Linux, and others with the cap bit.
+const UNLISTED_CODES: [u32; 18] = [
+    0x03, 0x0A, 0x0E, 0x10, 0x17, 0x23, 0x25, 0x4E, 0x65, 0x6D, 0x7F, 0x80, 0x8000, 0x8001, 0x8003,
+    0x8007, 0x4002, 0x10002,
 ];
 
 /// Offsets beside the listed ones: other registers of the chip, aliases, and near misses.
-const UNLISTED_OFFSETS: [u32; 16] = [
-    0x0000, 0x001C, 0x0021, 0x003C, 0x0040, 0x0058, 0x0060, 0x007C, 0x0084, 0x013C, 0x0141, 0x0162,
-    0x0168, 0x016C, 0x0220, 0xFFFFFFFF,
+const UNLISTED_OFFSETS: [u32; 18] = [
+    0x0000, 0x001C, 0x0021, 0x003C, 0x0042, 0x004D, 0x0050, 0x0058, 0x0060, 0x007C, 0x0084, 0x013C,
+    0x0141, 0x0162, 0x0168, 0x016C, 0x0220, 0xFFFFFFFF,
 ];
 
 impl Maker {
@@ -56,7 +58,8 @@ impl Maker {
         }
     }
 
-    /// A card that a reset and accepted writes can leave, but that its marks and held planes may be any words.
+    /// A card that a reset and accepted writes can leave, but that its marks and held planes may be any words, and so may what a
+    /// line left behind.
     pub fn good_card(&mut self) -> Card {
         let mut buffer = [0; 64];
         buffer.copy_from_slice(&self.random.bytes(64));
@@ -65,14 +68,18 @@ impl Maker {
             background: self.random.word(),
             plane: self.mask(),
             pixel: self.mask(),
-            mode: self.random.pick(&MODES).0,
+            mode: self.good_mode(),
             raster: self.random.below(16) as u32,
             data: self.mask(),
             block: std::array::from_fn(|_| self.random.word()),
+            bresenham: [self.increments(), self.increments(), self.line_start()],
             buffer,
             marked: self.mark(),
             loaded: self.mark(),
             writing: self.mark(),
+            place: self.place(),
+            error: self.error(),
+            kept: self.mark(),
             held: u32::from(self.held()) + (self.mark() & 0xFFFF_FF00),
         }
     }
@@ -109,11 +116,20 @@ impl Maker {
         }
     }
 
+    fn good_mode(&mut self) -> u32 {
+        if self.random.one_in(3) {
+            self.random.pick(&LINES).0
+        } else {
+            self.random.pick(&MODES).0
+        }
+    }
+
     fn bad_mode(&mut self) -> u32 {
         let code = self.random.pick(&MODES).0;
-        match self.random.below(3) {
+        match self.random.below(4) {
             0 => self.random.pick(&UNLISTED_CODES),
             1 => code + (0x80 << self.random.below(25)),
+            2 => self.bad_line_mode(),
             _ => self.random.word() | 0x80,
         }
     }
@@ -121,6 +137,8 @@ impl Maker {
     /// The next write for this card and VRAM length.
     pub fn write(&mut self, card: &Card, length: usize) -> Write {
         let write = match self.random.below(20) {
+            // A continue goes with the line modes; in others, register writes bring it.
+            0..=2 if mode::is_line(card.mode) => self.continued(),
             0..=10 => self.frame_write(card, length as u64),
             11..=18 => self.register_write(length as u64),
             _ => Write {
@@ -165,11 +183,13 @@ impl Maker {
         };
         let data = match address {
             0x0030 if self.random.one_in(6) => self.bad_mode(),
-            0x0030 => self.random.pick(&MODES).0,
+            0x0030 => self.good_mode(),
             0x0034 if self.random.one_in(3) => self.random.word(),
             0x0034 => self.random.word() & 0xFFFF_F0FF,
             0x0038 if self.random.one_in(3) => self.random.word(),
             0x0038 => self.random.word() & 0xFFFF_FFF0,
+            BRESENHAM_1 | BRESENHAM_2 => self.increments(),
+            BRESENHAM_3 => self.line_start(),
             0x0160 | 0x0164 => self.address(64, 64, length),
             _ => self.mask(),
         };
@@ -186,6 +206,7 @@ impl Maker {
             mode::SIMPLE => (4, 4),
             mode::COPY => (8, 32),
             other if mode::is_fill(other) => (4, 1),
+            other if mode::is_line(other) => (4, 4),
             _ => (4, 32),
         };
         let address = self.address(boundary, pixels, length);

@@ -1,4 +1,4 @@
-//! "Modes": what accepted frame writes and 64-byte copies draw.
+//! "Modes": what accepted frame writes, but for lines, and 64-byte copies draw.
 
 use super::mode::{self, Span};
 use super::{pixel, Card, Write};
@@ -6,11 +6,11 @@ use super::{pixel, Card, Write};
 /// Raster operation 3 takes the source.
 const TAKE_SOURCE: u32 = 3;
 
-fn set(word: u32, i: u64) -> bool {
+pub(super) fn set(word: u32, i: u64) -> bool {
     (u64::from(word) >> i) % 2 == 1
 }
 
-/// An accepted frame write of any mode.
+/// An accepted frame write of any mode but the two line modes.
 pub fn frame(card: &mut Card, vram: &mut [u8], write: Write) -> u32 {
     let reads = card.mode == mode::COPY && card.writing == 0;
     let count = if reads {
@@ -23,12 +23,15 @@ pub fn frame(card: &mut Card, vram: &mut [u8], write: Write) -> u32 {
         // "Copy (07h): accepted writes alternate."
         card.writing = u32::from(reads);
     }
+    count
+}
+
+/// "An accepted frame write of any mode, made while it is marked, sets it to all ones and unmarks it afterwards."
+pub fn use_up_mask(card: &mut Card) {
     if card.marked != 0 {
-        // "An accepted frame write of any mode, made while it is marked, sets it to all ones and unmarks it afterwards."
         card.pixel = 0xFFFF_FFFF;
         card.marked = 0;
     }
-    count
 }
 
 /// Draws every enabled pixel of the span and counts them, "whether or not a bit changes".

@@ -1,9 +1,10 @@
-//! A reference model of the scope paper, as Asks 1, 2 and 4 of the change requests amend it, written from the papers alone:
+//! A reference model of the scope paper, as Asks 1, 2, 4 and 5 of the change requests amend it, written from the papers alone:
 //! slow, bit by bit, and sharing nothing with the engine.
-//! Addresses and lengths are handled as u64, so nothing wraps.
+//! Addresses and lengths are handled as u64, and a line's places and errors as i64, so nothing wraps.
 
 pub mod card;
 pub mod draw;
+pub mod line;
 pub mod mode;
 pub mod pixel;
 pub mod refusal;
@@ -30,9 +31,9 @@ pub const REGISTER: u8 = 1;
 #[derive(Clone, Copy, PartialEq, Eq, Debug)]
 pub struct Answer {
     pub number: u32,
-    /// The pixels enabled, "whether or not a bit changes".
+    /// The pixels enabled, "whether or not a bit changes"; of a line, the "visits that draw".
     pub pixels: u32,
-    /// The pixels that really changed.
+    /// The pixels that really changed; of a line, the visits that draw and "change the byte".
     pub changed: u32,
 }
 
@@ -48,6 +49,18 @@ pub fn write(card: &mut Card, vram: &mut [u8], write: Write) -> Answer {
             changed: 0,
         };
     }
+    let answer = match line::walk(card, write) {
+        Some(walk) => line::draw(card, vram, write, &walk),
+        None => no_line(card, vram, write),
+    };
+    if write.space == FRAME {
+        draw::use_up_mask(card);
+    }
+    answer
+}
+
+/// An accepted write that is neither a line nor a continue.
+fn no_line(card: &mut Card, vram: &mut [u8], write: Write) -> Answer {
     let before = vram.to_vec();
     let pixels = if write.space == FRAME {
         draw::frame(card, vram, write)
@@ -62,7 +75,7 @@ pub fn write(card: &mut Card, vram: &mut [u8], write: Write) -> Answer {
 }
 
 /// Ask 4: "the number of pixels whose stored byte differs after a write". The whole picture before is held against the whole
-/// picture after, whatever was drawn between them.
+/// picture after, whatever was drawn between them. Such a write draws no pixel twice; a line may, and counts for itself.
 pub fn differing(before: &[u8], after: &[u8]) -> u32 {
     let pairs = before.iter().zip(after);
     pairs.filter(|(old, new)| old != new).count() as u32

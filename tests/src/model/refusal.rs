@@ -1,5 +1,6 @@
 //! "Numbers returned": which number a write gets. Each test below is one row of the table; the lowest wins.
 
+use super::line;
 use super::mode::{self, Span};
 use super::register::{self, Register};
 use super::{Card, Write, FRAME, REGISTER};
@@ -21,7 +22,7 @@ fn bad_lanes(card: &Card, write: Write) -> bool {
     write.lanes != 15 && (write.space == REGISTER || card.mode != mode::SIMPLE)
 }
 
-fn register(write: Write) -> Option<Register> {
+pub(super) fn register(write: Write) -> Option<Register> {
     if write.space == REGISTER {
         register::at(write.address)
     } else {
@@ -34,10 +35,12 @@ fn no_register(write: Write) -> bool {
     write.space == REGISTER && register(write).is_none()
 }
 
-/// Number 5, also for a card handed in with a mode that no reset or accepted write leaves.
+/// Number 5, also for a card handed in with a mode that no reset or accepted write leaves. Ask 5 of a continue: "outside the two
+/// line modes it answers 5"
 fn bad_mode(card: &Card, write: Write) -> bool {
     !mode::is_listed(card.mode)
         || (register(write) == Some(Register::Mode) && !mode::is_listed(write.data))
+        || (register(write) == Some(Register::Continue) && !mode::is_line(card.mode))
 }
 
 /// Number 6, also for a card handed in with a raster operation that no reset or accepted write leaves.
@@ -50,28 +53,46 @@ fn bad_operation(card: &Card, write: Write) -> bool {
     card.raster > 15 || bad_write
 }
 
-/// The span of a write that draws or loads; other register writes have none.
+/// A frame write in a line mode.
+fn is_line(card: &Card, write: Write) -> bool {
+    write.space == FRAME && mode::is_line(card.mode)
+}
+
+/// The span of a write that draws or loads; other register writes have none, and lines walk.
 fn span(card: &Card, write: Write) -> Option<Span> {
     match register(write) {
         Some(Register::Source) | Some(Register::Destination) => Some(mode::copy64_span(write)),
         Some(_) => None,
+        None if is_line(card, write) => None,
         None => Some(mode::frame_span(card.mode, write)),
     }
 }
 
-/// Number 7.
+/// Number 7. "Frame addresses are multiples of 4", a line's too: "Address bits 1:0 come from data bits 17:16".
 fn off_boundary(card: &Card, write: Write) -> bool {
-    span(card, write).is_some_and(|span| !span.address.is_multiple_of(span.boundary))
+    (is_line(card, write) && !write.address.is_multiple_of(4))
+        || span(card, write).is_some_and(|span| !span.address.is_multiple_of(span.boundary))
 }
 
-/// Number 8.
+/// Number 8. Ask 5: "any visited pixel outside VRAM, drawn or not, answers 8"
 fn outside(card: &Card, length: u64, write: Write) -> bool {
     span(card, write).is_some_and(|span| span.first + span.pixels > length)
+        || line::walk(card, write).is_some_and(|walk| walk.leaves(length))
 }
 
 /// Number 9.
 fn nothing_loaded(card: &Card, write: Write) -> bool {
     register(write) == Some(Register::Destination) && card.loaded == 0
+}
+
+/// Number 12. Ask 5: "an error outside signed 16 bits, at the start or after any step, the last too, answers 12"
+fn error_too_large(card: &Card, write: Write) -> bool {
+    line::walk(card, write).is_some_and(|walk| walk.errs())
+}
+
+/// Number 13. Ask 5 of a continue: "before any accepted line 13"
+fn nothing_to_continue(card: &Card, write: Write) -> bool {
+    register(write) == Some(Register::Continue) && card.kept == 0
 }
 
 /// "Where several apply, the lowest number is returned."
@@ -94,6 +115,10 @@ pub fn number(card: &Card, length: u64, write: Write) -> u32 {
         8
     } else if nothing_loaded(card, write) {
         9
+    } else if error_too_large(card, write) {
+        12
+    } else if nothing_to_continue(card, write) {
+        13
     } else {
         0
     }

@@ -1,4 +1,4 @@
-//! "Registers": the offsets, what an accepted register write leaves, and what a read gives.
+//! "Registers": the offsets, Ask 5's among them, what an accepted register write leaves, and what a read gives.
 
 use super::{draw, Card, Write};
 
@@ -11,6 +11,9 @@ pub enum Register {
     Mode,
     Raster,
     Shift,
+    /// Bresenham 1, 2 or 3, from 0.
+    Bresenham(usize),
+    Continue,
     PixelLasting,
     Data,
     Block(usize),
@@ -28,6 +31,10 @@ pub fn at(offset: u32) -> Option<Register> {
         0x0030 => Some(Register::Mode),
         0x0034 => Some(Register::Raster),
         0x0038 => Some(Register::Shift),
+        0x0040 => Some(Register::Bresenham(0)),
+        0x0044 => Some(Register::Bresenham(1)),
+        0x0048 => Some(Register::Bresenham(2)),
+        0x004C => Some(Register::Continue),
         0x005C => Some(Register::PixelLasting),
         0x0080 => Some(Register::Data),
         0x0140 => Some(Register::Block(0)),
@@ -44,7 +51,17 @@ pub fn at(offset: u32) -> Option<Register> {
     }
 }
 
-/// An accepted register write; the count is 0 unless it draws.
+/// Ask 5: "new registers ... drop unnamed bits". Bresenham 1 and 2 have none; in Bresenham 3 they are bits 14:4, between the
+/// initial error and the length.
+fn named_bits(i: usize, value: u32) -> u32 {
+    if i == 2 {
+        value & 0xFFFF_800F
+    } else {
+        value
+    }
+}
+
+/// An accepted register write that is no continue; the count is 0 unless it draws.
 pub fn accept(card: &mut Card, vram: &mut [u8], write: Write) -> u32 {
     match at(write.address).expect("an accepted register write has a register") {
         Register::Foreground => card.foreground = write.data,
@@ -60,6 +77,8 @@ pub fn accept(card: &mut Card, vram: &mut [u8], write: Write) -> u32 {
         Register::Raster => card.raster = write.data % 16,
         // "A pixel-shift write returns the direction to read source"; its own value can only be 0.
         Register::Shift => card.writing = 0,
+        Register::Bresenham(i) => card.bresenham[i] = named_bits(i, write.data),
+        Register::Continue => unreachable!("a continue is drawn as a line"),
         Register::PixelLasting => {
             // "a write at 005Ch unmarks it"
             card.pixel = write.data;
@@ -73,7 +92,8 @@ pub fn accept(card: &mut Card, vram: &mut [u8], write: Write) -> u32 {
     0
 }
 
-/// A register read: number and value. "Reading an offset not listed, 0160h or 0164h answers 4 with the number 0."
+/// A register read: number and value. "Reading an offset not listed, 0160h or 0164h answers 4 with the number 0." So does a
+/// continue, which is "write only".
 pub fn read_register(card: &Card, offset: u32) -> (u32, u32) {
     match at(offset) {
         Some(Register::Foreground) => (0, card.foreground),
@@ -84,8 +104,11 @@ pub fn read_register(card: &Card, offset: u32) -> (u32, u32) {
         // Also of a card handed in with other bits.
         Some(Register::Raster) => (0, card.raster % 16),
         Some(Register::Shift) => (0, 0),
+        Some(Register::Bresenham(i)) => (0, named_bits(i, card.bresenham[i])),
         Some(Register::Data) => (0, card.data),
         Some(Register::Block(i)) => (0, card.block[i]),
-        Some(Register::Source) | Some(Register::Destination) | None => (4, 0),
+        Some(Register::Source) | Some(Register::Destination) | Some(Register::Continue) | None => {
+            (4, 0)
+        }
     }
 }

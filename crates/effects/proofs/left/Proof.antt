@@ -55,7 +55,7 @@ unfolding left reads sourced
 returns-2 c =
     let a = c .before .before .before .before .before .before .args in
     rw (c .before .before .before .enum-told2 .given .1)
-    (ap₂ (λ (d : Card) (b : List ℕ). record { registers = d .registers; mask = d .mask; copier = record { buffer = b; loaded = 0; writing = 1 }; held = d .held })
+    (ap₂ (λ (d : Card) (b : List ℕ). record { registers = d .registers; mask = d .mask; copier = record { buffer = b; loaded = 0; writing = 1 }; line = d .line; held = d .held })
     (c .mask-used2 .ensures (a .w) (now (a .vram))) (c .before .source .ensures))
 
 returns-3 : tie.Need-returns-3
@@ -63,7 +63,7 @@ unfolding left
 returns-3 c =
     let a = c .before .before .before .before .before .args in
     rw (c .before .before .enum-told3 .given .1)
-    (ap (λ (d : Card). record { registers = d .registers; mask = d .mask; copier = record { buffer = d .copier .buffer; loaded = d .copier .loaded; writing = 0 }; held = d .held })
+    (ap (λ (d : Card). record { registers = d .registers; mask = d .mask; copier = record { buffer = d .copier .buffer; loaded = d .copier .loaded; writing = 0 }; line = d .line; held = d .held })
     (c .before .mask-used3 .ensures (a .w) (now (a .vram))))
 
 returns-4 : tie.Need-returns-4

@@ -14,7 +14,7 @@ unfolding left
 returns c =
     let a = c .before .before .before .args .card in
     λ w v.
-    ap (λ (b : ℕ). record { registers = a .registers; mask = record { bits = b; marked = 0 }; copier = a .copier; held = a .held }) (c .before .before .used-up .ensures)
+    ap (λ (b : ℕ). record { registers = a .registers; mask = record { bits = b; marked = 0 }; copier = a .copier; line = a .line; held = a .held }) (c .before .before .used-up .ensures)
 
 pub mask-used-spec : {M : Type 1} → statement M
 mask-used-spec = tie.close (tie.spec used-up-requires returns)

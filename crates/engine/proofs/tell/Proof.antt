@@ -1,27 +1,15 @@
--- `engine::tell` meets its contract, for every card, write and picture: the plan is made and judged, and one of the two ways is gone. Assumes nothing.
-use mathlib.Core.Path.{_≡_, ap, sym, _∙_}
-use Prim.Native.Nat.{ℕ}
+-- `engine::tell` meets its contract, for every card, write and picture: the plan is made and judged, and one of the three ways is gone. Assumes nothing.
+use mathlib.Core.Path.{_≡_, sym, _∙_}
 use denote.Ref.{now}
 use lib.ListN.{length}
-use Rattle.card.specs.declared.Card.{Card}
-use Rattle.card.specs.declared.Write.{Write}
-use Rattle.plan.specs.Plan.{planOf, judged}
 use Rattle.rules.specs.Refusal.{refusal}
-use Rattle.plan.specs.declared.Plan.{Plan}
 use Rattle.rules.proofs.Tests.{said}
 use Rattle.rules.proofs.Outcome.{count-refused, changed-refused, next-refused, picture-refused}
-use Rattle.plan.proofs.PlanNumber.{planned-number}
-use Rattle.engine.proofs.Letters.{keeps-refused, keeps-accepted}
+use Rattle.engine.proofs.Letters.{text-still, keeps-refused, keeps-accepted, keeps-either}
+use Rattle.engine.proofs.Walking.{at-fault, nothing-at-fault, still-accepted}
 use borrow.Author.Needs.{needs}
 use Rattle.engine.proofs.tell.Statement.{statement}
 use Rattle.engine.proofs.tell.Tie as tie
-
--- the number that was found is that of the write
-numbered : (c : Card) (w : Write) (n : ℕ) {p : Plan} {k : ℕ} → p ≡ planOf c w → k ≡ judged p w n → k ≡ refusal c w n
-numbered c w n of e = e ∙ (ap (λ (p : Plan). judged p w n) of ∙ planned-number c w n)
-
-accepted : (c : Card) (w : Write) (n : ℕ) {p : Plan} {k : ℕ} → p ≡ planOf c w → k ≡ judged p w n → k ≡ 0 → refusal c w n ≡ 0
-accepted c w n of e z = sym (numbered c w n of e) ∙ z
 
 plan-of-requires : tie.Need-plan-of-requires
 plan-of-requires c κs = search needs
@@ -33,7 +21,7 @@ returns : tie.Need-returns
 returns c =
     let a = c .before .before .before .before .args in
     let v = now (a .vram) in
-    let n = numbered (a .card) (a .w) (length v) (c .before .before .plan-of .ensures) (c .before .refuse .ensures) in
+    let n = at-fault (a .card) (a .w) (length v) (c .before .before .plan-of .ensures) (c .before .refuse .ensures) (c .if1 .taken) in
     let no : refusal (a .card) (a .w) (length v) ≡ 0 → ⊥ = λ e. c .if1 .taken (n ∙ e) in (
       record {
         number = n;
@@ -50,10 +38,9 @@ is-text-requires c κs = search needs
 
 text-requires : tie.Need-text-requires
 text-requires c κs =
-    let a = c .before .before .before .before .before .before .before .args in (
-      said (c .before .before .is-text .ensures) (c .before .if2 .taken),
-      accepted (a .card) (a .w) _ (c .before .before .before .before .before .plan-of .ensures) (c .before .before .before .before .refuse .ensures) (c .before .before .before .if1 .left),
-    )
+    let a = c .before .before .before .before .before .before .before .args in
+    let t = said (c .before .before .is-text .ensures) (c .before .if2 .taken) in
+    (t, still-accepted (a .card) (a .w) _ (c .before .before .before .before .before .plan-of .ensures) (c .before .before .before .before .refuse .ensures) (c .before .before .before .if1 .left) (text-still (a .card) (a .w) t))
 
 same-length : tie.Need-same-length
 same-length c = search needs
@@ -61,23 +48,43 @@ same-length c = search needs
 returns-2 : tie.Need-returns-2
 returns-2 c =
     let a = c .before .before .before .before .before .before .before .before .before .before .args in
-    let ok = accepted (a .card) (a .w) _ (c .before .before .before .before .before .before .before .before .plan-of .ensures) (c .before .before .before .before .before .before .before .refuse .ensures) (c .before .before .before .before .before .before .if1 .left) in
-    (c .before .before .text .ensures, keeps-accepted (a .card) (a .w) _ ok (said (c .before .before .before .before .before .is-text .ensures) (c .before .before .before .before .if2 .taken)))
+    let t = said (c .before .before .before .before .before .is-text .ensures) (c .before .before .before .before .if2 .taken) in
+    let ok = still-accepted (a .card) (a .w) _ (c .before .before .before .before .before .before .before .before .plan-of .ensures) (c .before .before .before .before .before .before .before .refuse .ensures) (c .before .before .before .before .before .before .if1 .left) (text-still (a .card) (a .w) t) in
+    (c .before .before .text .ensures, keeps-accepted (a .card) (a .w) _ ok t)
 
-by-plan-requires : tie.Need-by-plan-requires
-by-plan-requires c κs =
-    let a = c .before .before .before .before .before .before .before .args in
-    let of = c .before .before .before .before .before .plan-of .ensures in
-    (of, accepted (a .card) (a .w) _ of (c .before .before .before .before .refuse .ensures) (c .before .before .before .if1 .left))
+is-walk-requires : tie.Need-is-walk-requires
+is-walk-requires c κs = search needs
+
+by-walk-requires : tie.Need-by-walk-requires
+by-walk-requires c κs =
+    let a = c .before .before .before .before .before .before .before .before .before .args in
+    (said (c .before .before .is-walk .ensures) (c .before .if3 .taken), nothing-at-fault (a .card) (a .w) _ (c .before .before .before .before .before .before .before .plan-of .ensures) (c .before .before .before .before .before .before .refuse .ensures) (c .before .before .before .before .before .if1 .left))
 
 same-length-2 : tie.Need-same-length-2
 same-length-2 c = search needs
 
 returns-3 : tie.Need-returns-3
 returns-3 c =
-    let a = c .before .before .before .before .before .before .before .before .before .before .args in
-    let ok = accepted (a .card) (a .w) _ (c .before .before .before .before .before .before .before .before .plan-of .ensures) (c .before .before .before .before .before .before .before .refuse .ensures) (c .before .before .before .before .before .before .if1 .left) in
-    (c .before .before .by-plan .ensures, keeps-accepted (a .card) (a .w) _ ok (said (c .before .before .before .before .before .is-text .ensures) (c .before .before .before .before .if2 .left)))
+    let a = c .before .before .before .before .before .before .before .before .before .before .before .before .before .args in
+    let e = c .before .before .before .by-walk .ensures in
+    (e, keeps-either (a .card) (a .w) _ (e .number) (said (c .before .before .before .before .before .before .before .before .is-text .ensures) (c .before .before .before .before .before .before .before .if2 .left)))
+
+by-plan-requires : tie.Need-by-plan-requires
+by-plan-requires c κs =
+    let a = c .before .before .before .before .before .before .before .before .before .args in
+    let of = c .before .before .before .before .before .before .before .plan-of .ensures in
+    let still = said (c .before .before .is-walk .ensures) (c .before .if3 .left) in
+    (of, still, still-accepted (a .card) (a .w) _ of (c .before .before .before .before .before .before .refuse .ensures) (c .before .before .before .before .before .if1 .left) still)
+
+same-length-3 : tie.Need-same-length-3
+same-length-3 c = search needs
+
+returns-4 : tie.Need-returns-4
+returns-4 c =
+    let a = c .before .before .before .before .before .before .before .before .before .before .before .before .args in
+    let still = said (c .before .before .before .before .before .is-walk .ensures) (c .before .before .before .before .if3 .left) in
+    let ok = still-accepted (a .card) (a .w) _ (c .before .before .before .before .before .before .before .before .before .before .plan-of .ensures) (c .before .before .before .before .before .before .before .before .before .refuse .ensures) (c .before .before .before .before .before .before .before .before .if1 .left) still in
+    (c .before .before .by-plan .ensures, keeps-accepted (a .card) (a .w) _ ok (said (c .before .before .before .before .before .before .before .is-text .ensures) (c .before .before .before .before .before .before .if2 .left)))
 
 pub tell-spec : {M : Type 1} → statement M
 tell-spec =
@@ -90,6 +97,10 @@ tell-spec =
     text-requires
     same-length
     returns-2
-    by-plan-requires
+    is-walk-requires
+    by-walk-requires
     same-length-2
-    returns-3)
+    returns-3
+    by-plan-requires
+    same-length-3
+    returns-4)

@@ -113,6 +113,18 @@ enum-told-9 c = search needs
 drawing-requires-8 : tie.Need-drawing-requires-8
 drawing-requires-8 c κs = search needs
 
+enum-told-10 : tie.Need-enum-told-10
+enum-told-10 c = search needs
+
+drawing-requires-9 : tie.Need-drawing-requires-9
+drawing-requires-9 c κs = search needs
+
+enum-told-11 : tie.Need-enum-told-11
+enum-told-11 c = search needs
+
+drawing-requires-10 : tie.Need-drawing-requires-10
+drawing-requires-10 c κs = search needs
+
 returns : tie.Need-returns
 unfolding frameSpan
 returns c = c .drawing .ensures ∙ rw (← (c .before .before .before .before .before .before .before .before .mode-of .ensures), c .before .before .before .enum-told .given .1, c .before .tile .ensures)
@@ -148,6 +160,14 @@ returns-8 c = c .of-copy .ensures ∙ rw (← (c .before .before .before .before
 returns-9 : tie.Need-returns-9
 unfolding frameSpan
 returns-9 c = c .drawing8 .ensures ∙ rw (← (c .before .before .before .before .before .before .mode-of .ensures), c .before .enum-told9 .given .1)
+
+returns-10 : tie.Need-returns-10
+unfolding frameSpan
+returns-10 c = c .drawing9 .ensures ∙ rw (← (c .before .before .before .before .before .before .mode-of .ensures), c .before .enum-told10 .given .1)
+
+returns-11 : tie.Need-returns-11
+unfolding frameSpan
+returns-11 c = c .drawing10 .ensures ∙ rw (← (c .before .before .before .before .before .before .mode-of .ensures), c .before .enum-told11 .given .1)
 
 pub plan-spec : {M : Type 1} → statement M
 plan-spec =
@@ -189,6 +209,10 @@ plan-spec =
     of-copy-requires
     enum-told-9
     drawing-requires-8
+    enum-told-10
+    drawing-requires-9
+    enum-told-11
+    drawing-requires-10
     returns
     returns-2
     returns-3
@@ -197,4 +221,6 @@ plan-spec =
     returns-6
     returns-7
     returns-8
-    returns-9)
+    returns-9
+    returns-10
+    returns-11)

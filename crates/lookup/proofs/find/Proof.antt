@@ -33,6 +33,12 @@ listed-requires-8 c κs = search needs
 listed-requires-9 : tie.Need-listed-requires-9
 listed-requires-9 c κs = search needs
 
+sub-listed : tie.Need-sub-listed
+sub-listed c = search needs
+
+add-listed : tie.Need-add-listed
+add-listed c = search needs
+
 listed-requires-10 : tie.Need-listed-requires-10
 listed-requires-10 c κs = search needs
 
@@ -65,6 +71,18 @@ listed-requires-19 c κs = search needs
 
 listed-requires-20 : tie.Need-listed-requires-20
 listed-requires-20 c κs = search needs
+
+listed-requires-21 : tie.Need-listed-requires-21
+listed-requires-21 c κs = search needs
+
+listed-requires-22 : tie.Need-listed-requires-22
+listed-requires-22 c κs = search needs
+
+listed-requires-23 : tie.Need-listed-requires-23
+listed-requires-23 c κs = search needs
+
+listed-requires-24 : tie.Need-listed-requires-24
+listed-requires-24 c κs = search needs
 
 returns : tie.Need-returns
 unfolding rowAt rowIn table
@@ -144,9 +162,25 @@ returns-19 c = c .listed19 .ensures ∙ rw (c .before .match .keys19)
 
 returns-20 : tie.Need-returns-20
 unfolding rowAt rowIn table
-returns-20 c =
+returns-20 c = c .listed20 .ensures ∙ rw (c .before .match .keys20)
+
+returns-21 : tie.Need-returns-21
+unfolding rowAt rowIn table
+returns-21 c = c .listed21 .ensures ∙ rw (c .before .match .keys21)
+
+returns-22 : tie.Need-returns-22
+unfolding rowAt rowIn table
+returns-22 c = c .listed22 .ensures ∙ rw (c .before .match .keys22)
+
+returns-23 : tie.Need-returns-23
+unfolding rowAt rowIn table
+returns-23 c = c .listed23 .ensures ∙ rw (c .before .match .keys23)
+
+returns-24 : tie.Need-returns-24
+unfolding rowAt rowIn table
+returns-24 c =
     let n = c .before .match .rest in
-    c .listed20 .ensures
+    c .listed24 .ensures
     ∙ simp (
       ne-eqb _ _ (λ e. n .1 (sym e)),
       ne-eqb _ _ (λ e. n .0 .1 (sym e)),
@@ -167,6 +201,10 @@ returns-20 c =
       ne-eqb _ _ (λ e. n .0 .0 .0 .0 .0 .0 .0 .0 .0 .0 .0 .0 .0 .0 .0 .0 .1 (sym e)),
       ne-eqb _ _ (λ e. n .0 .0 .0 .0 .0 .0 .0 .0 .0 .0 .0 .0 .0 .0 .0 .0 .0 .1 (sym e)),
       ne-eqb _ _ (λ e. n .0 .0 .0 .0 .0 .0 .0 .0 .0 .0 .0 .0 .0 .0 .0 .0 .0 .0 .1 (sym e)),
+      ne-eqb _ _ (λ e. n .0 .0 .0 .0 .0 .0 .0 .0 .0 .0 .0 .0 .0 .0 .0 .0 .0 .0 .0 .1 (sym e)),
+      ne-eqb _ _ (λ e. n .0 .0 .0 .0 .0 .0 .0 .0 .0 .0 .0 .0 .0 .0 .0 .0 .0 .0 .0 .0 .1 (sym e)),
+      ne-eqb _ _ (λ e. n .0 .0 .0 .0 .0 .0 .0 .0 .0 .0 .0 .0 .0 .0 .0 .0 .0 .0 .0 .0 .0 .1 (sym e)),
+      ne-eqb _ _ (λ e. n .0 .0 .0 .0 .0 .0 .0 .0 .0 .0 .0 .0 .0 .0 .0 .0 .0 .0 .0 .0 .0 .0 .1 (sym e)),
     )
 
 pub find-spec : {M : Type 1} → statement M
@@ -182,6 +220,8 @@ find-spec =
     listed-requires-7
     listed-requires-8
     listed-requires-9
+    sub-listed
+    add-listed
     listed-requires-10
     listed-requires-11
     listed-requires-12
@@ -193,6 +233,10 @@ find-spec =
     listed-requires-18
     listed-requires-19
     listed-requires-20
+    listed-requires-21
+    listed-requires-22
+    listed-requires-23
+    listed-requires-24
     returns
     returns-2
     returns-3
@@ -212,4 +256,8 @@ find-spec =
     returns-17
     returns-18
     returns-19
-    returns-20)
+    returns-20
+    returns-21
+    returns-22
+    returns-23
+    returns-24)

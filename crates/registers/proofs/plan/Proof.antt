@@ -48,23 +48,38 @@ storing-requires-3 c κs = search needs
 enum-told-4 : tie.Need-enum-told-4
 enum-told-4 c = search needs
 
-copying-requires : tie.Need-copying-requires
-copying-requires c κs = search needs
+mode-of-requires : tie.Need-mode-of-requires
+mode-of-requires c κs = search needs
 
-enum-told-5 : tie.Need-enum-told-5
-enum-told-5 c = search needs
+is-line-requires : tie.Need-is-line-requires
+is-line-requires c κs = search needs
 
-copying-requires-2 : tie.Need-copying-requires-2
-copying-requires-2 c κs = search needs
-
-enum-told-6 : tie.Need-enum-told-6
-enum-told-6 c = search needs
+or-requires-4 : tie.Need-or-requires-4
+or-requires-4 c κs = search needs
 
 storing-requires-4 : tie.Need-storing-requires-4
 storing-requires-4 c κs = search needs
 
+enum-told-5 : tie.Need-enum-told-5
+enum-told-5 c = search needs
+
+copying-requires : tie.Need-copying-requires
+copying-requires c κs = search needs
+
+enum-told-6 : tie.Need-enum-told-6
+enum-told-6 c = search needs
+
+copying-requires-2 : tie.Need-copying-requires-2
+copying-requires-2 c κs = search needs
+
+enum-told-7 : tie.Need-enum-told-7
+enum-told-7 c = search needs
+
 storing-requires-5 : tie.Need-storing-requires-5
 storing-requires-5 c κs = search needs
+
+storing-requires-6 : tie.Need-storing-requires-6
+storing-requires-6 c κs = search needs
 
 returns : tie.Need-returns
 returns c =
@@ -92,35 +107,43 @@ returns-3 c =
 
 returns-4 : tie.Need-returns-4
 returns-4 c =
+    let a = c .before .before .before .before .before .before .before .before .before .before .before .before .args in
+    let told = c .before .before .before .before .enum-told4 .given .1 in
+    stores-arm (a .card) (a .w) (c .before .before .before .before .before .before .before .before .before .before .before .find .ensures)
+    (rw (told, c .before .or4 .ensures, c .before .before .is-line .ensures, c .before .before .before .mode-of .ensures, c .before .before .before .before .before .before .before .is-unlisted .ensures) (simp or-false))
+    (rw told) (rw told) (c .storing4 .ensures)
+
+returns-5 : tie.Need-returns-5
+returns-5 c =
     let a = c .before .before .before .before .before .before .before .before .before .args in
-    let told = c .before .enum-told4 .given .1 in
+    let told = c .before .enum-told5 .given .1 in
     loads-arm (a .card) (a .w) (c .before .before .before .before .before .before .before .before .find .ensures)
     (rw (told, c .before .before .before .before .is-unlisted .ensures) (simp or-false))
     (rw told) (c .copying .ensures)
 
-returns-5 : tie.Need-returns-5
-returns-5 c =
+returns-6 : tie.Need-returns-6
+returns-6 c =
     let a = c .before .before .before .before .before .before .before .before .before .before .args in
-    let told = c .before .before .enum-told5 .given .1 in
+    let told = c .before .before .enum-told6 .given .1 in
     unloads-arm (a .card) (a .w) (c .before .before .before .before .before .before .before .before .before .find .ensures)
     (rw (told, c .before .before .before .before .before .is-unlisted .ensures) (simp (or-false, not-not)))
     (rw told) (rw told) (c .copying2 .ensures)
 
-returns-6 : tie.Need-returns-6
-returns-6 c =
-    let a = c .before .before .before .before .before .before .before .before .before .args in
-    let told = c .before .enum-told6 .given .1 in
-    stores-arm (a .card) (a .w) (c .before .before .before .before .before .before .before .before .find .ensures)
-    (rw (told, c .before .before .before .before .is-unlisted .ensures) (simp or-false))
-    (rw told) (rw told) (c .storing4 .ensures)
-
 returns-7 : tie.Need-returns-7
 returns-7 c =
+    let a = c .before .before .before .before .before .before .before .before .before .args in
+    let told = c .before .enum-told7 .given .1 in
+    stores-arm (a .card) (a .w) (c .before .before .before .before .before .before .before .before .find .ensures)
+    (rw (told, c .before .before .before .before .is-unlisted .ensures) (simp or-false))
+    (rw told) (rw told) (c .storing5 .ensures)
+
+returns-8 : tie.Need-returns-8
+returns-8 c =
     let a = c .before .before .before .before .before .before .before .before .args in
-    let p = plain (c .before .before .before .before .before .before .before .find .result .register) (c .before .match .keys7) in
+    let p = plain (c .before .before .before .before .before .before .before .find .result .register) (c .before .match .keys8) in
     stores-arm (a .card) (a .w) (c .before .before .before .before .before .before .before .find .ensures)
-    (rw (c .before .before .before .is-unlisted .ensures) (simp (p .0, p .1, p .2, p .3, p .4, p .5, or-false)))
-    (p .3) (p .4) (c .storing5 .ensures)
+    (rw (c .before .before .before .is-unlisted .ensures) (simp (p .0, p .1, p .2, p .3, p .4, p .5, p .6, or-false)))
+    (p .4) (p .5) (c .storing6 .ensures)
 
 pub plan-spec : {M : Type 1} → statement M
 plan-spec =
@@ -140,16 +163,22 @@ plan-spec =
     or-requires-3
     storing-requires-3
     enum-told-4
-    copying-requires
-    enum-told-5
-    copying-requires-2
-    enum-told-6
+    mode-of-requires
+    is-line-requires
+    or-requires-4
     storing-requires-4
+    enum-told-5
+    copying-requires
+    enum-told-6
+    copying-requires-2
+    enum-told-7
     storing-requires-5
+    storing-requires-6
     returns
     returns-2
     returns-3
     returns-4
     returns-5
     returns-6
-    returns-7)
+    returns-7
+    returns-8)

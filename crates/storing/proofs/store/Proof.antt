@@ -31,6 +31,18 @@ enum-told-8 c = search needs
 enum-told-9 : tie.Need-enum-told-9
 enum-told-9 c = search needs
 
+enum-told-10 : tie.Need-enum-told-10
+enum-told-10 c = search needs
+
+enum-told-11 : tie.Need-enum-told-11
+enum-told-11 c = search needs
+
+enum-told-12 : tie.Need-enum-told-12
+enum-told-12 c = search needs
+
+enum-told-13 : tie.Need-enum-told-13
+enum-told-13 c = search needs
+
 enum-known-register : tie.Need-enum-known-register
 enum-known-register c = search needs
 
@@ -43,14 +55,14 @@ mul-registers c = search needs
 element-write-registers : tie.Need-element-write-registers
 element-write-registers c = search needs
 
-enum-told-10 : tie.Need-enum-told-10
-enum-told-10 c = search needs
+enum-told-14 : tie.Need-enum-told-14
+enum-told-14 c = search needs
 
-enum-told-11 : tie.Need-enum-told-11
-enum-told-11 c = search needs
+enum-told-15 : tie.Need-enum-told-15
+enum-told-15 c = search needs
 
-enum-told-12 : tie.Need-enum-told-12
-enum-told-12 c = search needs
+enum-told-16 : tie.Need-enum-told-16
+enum-told-16 c = search needs
 
 returns : tie.Need-returns
 unfolding stores
@@ -82,7 +94,7 @@ returns-7 c = rw (c .before .enum-told7 .given .1)
 
 returns-8 : tie.Need-returns-8
 unfolding stores
-returns-8 c = rw (c .before .before .enum-told8 .given .1)
+returns-8 c = rw (c .before .enum-told8 .given .1)
 
 returns-9 : tie.Need-returns-9
 unfolding stores
@@ -90,19 +102,35 @@ returns-9 c = rw (c .before .enum-told9 .given .1)
 
 returns-10 : tie.Need-returns-10
 unfolding stores
-returns-10 c = rw (c .before .before .register .given .1)
+returns-10 c = rw (c .before .enum-told10 .given .1)
 
 returns-11 : tie.Need-returns-11
 unfolding stores
-returns-11 c = rw (c .enum-told10 .given .1)
+returns-11 c = rw (c .enum-told11 .given .1)
 
 returns-12 : tie.Need-returns-12
 unfolding stores
-returns-12 c = rw (c .enum-told11 .given .1)
+returns-12 c = rw (c .before .before .enum-told12 .given .1)
 
 returns-13 : tie.Need-returns-13
 unfolding stores
-returns-13 c = rw (c .enum-told12 .given .1)
+returns-13 c = rw (c .before .enum-told13 .given .1)
+
+returns-14 : tie.Need-returns-14
+unfolding stores
+returns-14 c = rw (c .before .before .register .given .1)
+
+returns-15 : tie.Need-returns-15
+unfolding stores
+returns-15 c = rw (c .enum-told14 .given .1)
+
+returns-16 : tie.Need-returns-16
+unfolding stores
+returns-16 c = rw (c .enum-told15 .given .1)
+
+returns-17 : tie.Need-returns-17
+unfolding stores
+returns-17 c = rw (c .enum-told16 .given .1)
 
 pub store-spec : {M : Type 1} → statement M
 store-spec =
@@ -117,13 +145,17 @@ store-spec =
     enum-told-7
     enum-told-8
     enum-told-9
+    enum-told-10
+    enum-told-11
+    enum-told-12
+    enum-told-13
     enum-known-register
     cast-at
     mul-registers
     element-write-registers
-    enum-told-10
-    enum-told-11
-    enum-told-12
+    enum-told-14
+    enum-told-15
+    enum-told-16
     returns
     returns-2
     returns-3
@@ -136,4 +168,8 @@ store-spec =
     returns-10
     returns-11
     returns-12
-    returns-13)
+    returns-13
+    returns-14
+    returns-15
+    returns-16
+    returns-17)

@@ -72,8 +72,9 @@ fn wrong(sent: &[u8]) -> Wrong {
 }
 
 pub struct Met {
-    chunks: [u64; 11],
-    ends: [u64; 11],
+    /// By number; 11 is for a buffer without room, so it never comes up.
+    chunks: [u64; 14],
+    ends: [u64; 14],
     /// Cuts of a header and of an entry, after so many bytes of it.
     headers: [u64; HEADER],
     entries: [u64; ENTRY],
@@ -93,8 +94,8 @@ fn add(counts: &mut [u64], met: &[bool]) {
 impl Met {
     pub fn new() -> Met {
         Met {
-            chunks: [0; 11],
-            ends: [0; 11],
+            chunks: [0; 14],
+            ends: [0; 14],
             headers: [0; HEADER],
             entries: [0; ENTRY],
             situations: [0; SITUATIONS.len()],
@@ -132,7 +133,7 @@ impl Met {
             wrong == Some(Wrong::Past),
             owed && sent.len() < HEADER,
             owed && sent.len() >= HEADER,
-            refused && number < 10 && entries > 0,
+            refused && number != 10 && entries > 0,
             refused && number == 1 && !empty,
             refused && number == 1 && empty,
             empty && number == 0,
@@ -178,11 +179,13 @@ impl Met {
     }
 
     /// Counts by number or by place, with the first of them.
-    fn numbered(&self) -> [(&str, usize, &[u64]); 4] {
+    fn numbered(&self) -> [(&str, usize, &[u64]); 6] {
         // A cut after no byte is none.
         [
-            ("chunk, number", 0, &self.chunks),
-            ("end call, number", 0, &self.ends),
+            ("chunk, number", 0, &self.chunks[..11]),
+            ("chunk, number", 12, &self.chunks[12..]),
+            ("end call, number", 0, &self.ends[..11]),
+            ("end call, number", 12, &self.ends[12..]),
             ("header cut after", 1, &self.headers[1..]),
             ("entry cut after", 1, &self.entries[1..]),
         ]

@@ -1,0 +1,3 @@
+-- What the crate `walks` promises of a walk.
+pub mod Reach
+pub mod Contract
