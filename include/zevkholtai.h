@@ -13,19 +13,33 @@
  *    2  space is not 0 (frame) or 1 (register), or lanes exceed 15
  *    3  lanes are not 15, on a register write or in any mode but simple
  *    4  no such register
- *    5  a mode that is not listed, written or in the card handed in
+ *    5  a mode that is not listed, written or in the card handed in; a continue outside the line modes
  *    6  a raster operation written with any of bits 11:8 set, or a pixel shift with any of bits 3:0; a card whose operation
  *       is over 15
  *    7  an address off its boundary
- *    8  a pixel of the span, masked or not, lies outside VRAM
+ *    8  a pixel of the span, masked or not, lies outside VRAM; of a line or a continue any place that it visits, drawn or not
  *    9  a 64-byte destination write with no 64-byte source loaded
  *   10  trace bytes malformed
  *   11  no room for a trace entry or header
+ *   12  a line's or a continue's error lies outside signed 16 bits, at its start or after any of its steps
+ *   13  a continue before any accepted line
  *
  * Made twice, a list of writes leaves every picture as it was, and gives the same answers both times, the pixels changed
  * too, on two conditions. Every write that draws does so under raster operation 5, 6, 9 or 10 and obeys it (is no frame
  * write in a block mode), and none reads pixels into the copy buffer. Both times start from the same card: save it before
- * the first and put it back before the second, so that, say, a one-shot pixel mask is set again. See examples/host.c.
+ * the first and put it back before the second, so that, say, a one-shot pixel mask is set again, and a continue starts at
+ * the same place. See examples/host.c.
+ *
+ * To draw a line from one pixel to another, let `major` be the larger and `minor` the smaller of the two distances, in columns
+ * and rows, and s and t the steps of an address along them (1 or -1 for a column, the screen's width or its negative for a
+ * row). Set Bresenham 1, 2 and 3 (0040h, 0044h, 0048h), each increment as 16 bits of two's complement, to
+ *
+ *    s << 16 | 2 * minor,  (s + t) << 16 | 2 * (major - minor)  and  (2 * minor - major) << 15 | length % 16
+ *
+ * and write, in mode 8002h (opaque) or 8006h (transparent), at the address of the first pixel less its bits 1:0, those bits
+ * << 16 | a mask: bit i for pixel i. `length` is major + 1, or 16 where that is more; each continue (004Ch), a mask, goes 16
+ * pixels on, and its mask leaves out what the line has not. All 16 places must lie inside VRAM; where they do not, start the
+ * rest as a line of its own, with the error that the card keeps in line.error. Modes 0002h and 0006h leave the last pixel out.
  */
 #ifndef ZEVKHOLTAI_H
 #define ZEVKHOLTAI_H
@@ -43,6 +57,9 @@ struct zevkholtai_registers {
     uint32_t plane;    /* plane mask */
     uint32_t mode;
     uint32_t raster;   /* raster operation, bits 3:0 */
+    uint32_t bresenham1;
+    uint32_t bresenham2;
+    uint32_t bresenham3;
     uint32_t fill;     /* fill mask: the data register */
     uint32_t block[8]; /* block colours */
 };
@@ -59,18 +76,27 @@ struct zevkholtai_copier {
     uint32_t writing; /* the next copy write draws its destination */
 };
 
-/* The whole state: 140 bytes, no padding. */
+/* Where the last accepted line or continue stopped, after its last step: a continue goes on from there. */
+struct zevkholtai_line {
+    int32_t place; /* an address, which can lie outside VRAM, also below 0 */
+    int32_t error;
+    uint32_t kept; /* a line was accepted */
+};
+
+/* The whole state: 164 bytes, no padding. */
 struct zevkholtai_card {
     struct zevkholtai_registers registers;
     struct zevkholtai_mask mask;
     struct zevkholtai_copier copier;
+    struct zevkholtai_line line;
     uint32_t held; /* held planes, bits 7:0, which no write can change */
 };
 
 struct zevkholtai_answer {
     uint32_t number;
     uint32_t count;   /* pixels enabled, whether or not a bit changed; 0 where refused */
-    uint32_t changed; /* pixels whose byte is another now: at most count; 0 exactly where every byte of VRAM stayed */
+    uint32_t changed; /* pixels whose byte is another now: at most count. Where it is 0, every byte of VRAM stayed; the
+                       * converse holds but for a line or continue that visits a pixel twice, whose visits count one by one */
 };
 
 struct zevkholtai_checked {
@@ -109,7 +135,7 @@ struct zevkholtai_fed {
 void zevkholtai_reset(struct zevkholtai_card *card, uint8_t held);
 
 /* One write, as the bus delivers it. Accepted, it draws into VRAM and leaves the next card. Refused, it leaves the card and
- * every byte of VRAM. A byte outside the write's span, a masked bit and a held plane keep their state. */
+ * every byte of VRAM. A byte outside the write's span or visits, a masked bit and a held plane keep their state. */
 struct zevkholtai_answer zevkholtai_write(struct zevkholtai_card *card, uint8_t space, uint8_t lanes, uint32_t address,
                                           uint32_t data, uint8_t *vram, size_t length);
 
@@ -144,7 +170,7 @@ struct zevkholtai_reader zevkholtai_new_reader(void);
  *    1  the VRAM's length, for an empty chunk too; no byte of the chunk is read
  *   10  a bad header, at its sixteenth byte; a nonzero pad byte, at once; a byte past the header's total
  *
- * or, 2 to 9, the number of a refused entry. What was drawn before stays, and that number sticks: later chunks and end calls
+ * or, 2 to 9, 12 and 13, the number of a refused entry. What was drawn before stays, and that number sticks: later chunks and end calls
  * answer it, and change nothing.
  *
  * A reader whose number is 0 answers 10, before 1, and nothing else changes, where 16 bytes or more wait, 12 or more once
@@ -166,29 +192,36 @@ struct zevkholtai_reader zevkholtai_end(struct zevkholtai_reader reader);
 
 #define ZEVKHOLTAI_AT(field, offset) ZEVKHOLTAI_HOLDS(offsetof(struct zevkholtai_card, field) == (offset))
 #define ZEVKHOLTAI_READS(field, offset) ZEVKHOLTAI_HOLDS(offsetof(struct zevkholtai_reader, field) == (offset))
-ZEVKHOLTAI_HOLDS(sizeof(struct zevkholtai_registers) == 56);
+ZEVKHOLTAI_HOLDS(sizeof(struct zevkholtai_registers) == 68);
 ZEVKHOLTAI_HOLDS(sizeof(struct zevkholtai_mask) == 8);
 ZEVKHOLTAI_HOLDS(sizeof(struct zevkholtai_copier) == 72);
-ZEVKHOLTAI_HOLDS(sizeof(struct zevkholtai_card) == 140);
+ZEVKHOLTAI_HOLDS(sizeof(struct zevkholtai_line) == 12);
+ZEVKHOLTAI_HOLDS(sizeof(struct zevkholtai_card) == 164);
 ZEVKHOLTAI_HOLDS(sizeof(struct zevkholtai_answer) == 12);
 ZEVKHOLTAI_HOLDS(sizeof(struct zevkholtai_checked) == 8);
 ZEVKHOLTAI_HOLDS(sizeof(struct zevkholtai_ran) == 20);
 ZEVKHOLTAI_HOLDS(sizeof(struct zevkholtai_reader) == 44);
-ZEVKHOLTAI_HOLDS(sizeof(struct zevkholtai_fed) == 184);
+ZEVKHOLTAI_HOLDS(sizeof(struct zevkholtai_fed) == 208);
 ZEVKHOLTAI_HOLDS(offsetof(struct zevkholtai_fed, card) == 44);
 ZEVKHOLTAI_AT(registers.foreground, 0);
 ZEVKHOLTAI_AT(registers.background, 4);
 ZEVKHOLTAI_AT(registers.plane, 8);
 ZEVKHOLTAI_AT(registers.mode, 12);
 ZEVKHOLTAI_AT(registers.raster, 16);
-ZEVKHOLTAI_AT(registers.fill, 20);
-ZEVKHOLTAI_AT(registers.block, 24);
-ZEVKHOLTAI_AT(mask.bits, 56);
-ZEVKHOLTAI_AT(mask.marked, 60);
-ZEVKHOLTAI_AT(copier.buffer, 64);
-ZEVKHOLTAI_AT(copier.loaded, 128);
-ZEVKHOLTAI_AT(copier.writing, 132);
-ZEVKHOLTAI_AT(held, 136);
+ZEVKHOLTAI_AT(registers.bresenham1, 20);
+ZEVKHOLTAI_AT(registers.bresenham2, 24);
+ZEVKHOLTAI_AT(registers.bresenham3, 28);
+ZEVKHOLTAI_AT(registers.fill, 32);
+ZEVKHOLTAI_AT(registers.block, 36);
+ZEVKHOLTAI_AT(mask.bits, 68);
+ZEVKHOLTAI_AT(mask.marked, 72);
+ZEVKHOLTAI_AT(copier.buffer, 76);
+ZEVKHOLTAI_AT(copier.loaded, 140);
+ZEVKHOLTAI_AT(copier.writing, 144);
+ZEVKHOLTAI_AT(line.place, 148);
+ZEVKHOLTAI_AT(line.error, 152);
+ZEVKHOLTAI_AT(line.kept, 156);
+ZEVKHOLTAI_AT(held, 160);
 ZEVKHOLTAI_READS(number, 0);
 ZEVKHOLTAI_READS(opened, 4);
 ZEVKHOLTAI_READS(announced, 8);

@@ -43,7 +43,7 @@ end-after-number s n = ap (λ (r : Reader). record { reader = r; card = s .card;
 
 -- ---- What a chunk is, whatever the reader: nothing but a number, or its bytes one after the other.
 
-by-chunk : (q : Standing → Type 0) (bs : List ℕ) (s : Standing) → q s → ((n : ℕ) → n ≤ 10 → q (sticks n s))
+by-chunk : (q : Standing → Type 0) (bs : List ℕ) (s : Standing) → q s → ((n : ℕ) → n ≤ 13 → q (sticks n s))
     → (Sound (s .reader) → badLength (length (s .picture)) ≡ false → q (reads bs s)) → q (chunk bs s)
 by-chunk q bs s same number bytes = go (eqb (s .reader .number) 0) (sound (s .reader)) (badLength (length (s .picture))) refl refl refl
   where
@@ -117,7 +117,7 @@ held-from-reset planes rest v i k h l e = held-planes rest (fresh (resetCard pla
 -- ---- Demand 1: every call gets one of the numbers 0 to 10.
 
 abbrev Answered : Standing → Type 0
-Answered s = s .reader .number ≤ 10
+Answered s = s .reader .number ≤ 13
 
 answered-step : {s t : Standing} {b : ℕ} → Answered s → Step s b t → Answered t
 unfolding waits opens draws apply refuse
@@ -125,7 +125,7 @@ answered-step h (stays n) = h
 answered-step h refuses = omega arith
 answered-step h (waiting l) = h
 answered-step {s} h (drawing f o m l) =
-    by-answer (λ t. t .number ≤ 10) _ (stateOf s) (λ _. omega arith) (λ _. le-trans (answered (s .card) _ (length (s .picture))) (omega arith))
+    by-answer (λ t. t .number ≤ 13) _ (stateOf s) (λ _. omega arith) (λ _. le-trans (answered (s .card) _ (length (s .picture))) (omega arith))
 answered-step h (opening l g) = h
 
 answered-reads : (bs : List ℕ) (s : Standing) → Answered s → Answered (reads bs s)

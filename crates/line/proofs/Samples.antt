@@ -11,9 +11,9 @@ use Rattle.span.specs.Spans.{spanned}
 use Rattle.card.specs.Registers.{rowAt, rowIn, table}
 use Rattle.card.specs.Reset.{resetCard}
 use Rattle.rules.specs.Modes.{modeOf, frameSpan, effectiveBy}
-use Rattle.rules.specs.Lines.{spansOf}
-use Rattle.rules.specs.Refusal.{badLength, badSpace, badLanes, noRegister, badMode, badRaster, offBoundary, outside, unloaded, refusal}
-use Rattle.rules.specs.Writes.{count, operation, layers, picture, changed, sourced, afterFrame, afterRegister, next}
+use Rattle.rules.specs.Lines.{walks, spansOf}
+use Rattle.rules.specs.Refusal.{badLength, badSpace, badLanes, noRegister, badMode, badRaster, offBoundary, outside, unloaded, wildWalk, noLine, refusal}
+use Rattle.rules.specs.Writes.{count, operation, layers, picture, changed, sourced, movedLine, afterFrame, afterRegister, next}
 use Rattle.format.specs.Bytes.{word}
 use Rattle.format.specs.Traces.{writeAt, goodHeader}
 use Rattle.trace.specs.Run.{State, nothing, apply, refuse, ran}
@@ -29,7 +29,7 @@ abbrev after : ℕ → State
 after n = stateOf (finished (chunks (pieces n) (fresh (resetCard 0) (replicate 64 0))))
 
 pub arrived : (after 8 .number ≡ 0) × (after 8 .applied ≡ 1) × (after 8 .pixels ≡ 4) × (after 8 .changed ≡ 4) × (after 8 .picture ≡ 0x11 ∷ 0x22 ∷ 0x33 ∷ 0x44 ∷ replicate 60 0)
-unfolding newReader complete badPad waits opens draws byte reads sound chunk chunks ended word writeAt goodHeader ran apply refuse resetCard rowAt rowIn table bit number result made byteAt from before drawn counted differing listed drawnAll changedAll spanned modeOf frameSpan spansOf effectiveBy badLength badSpace badLanes noRegister badMode badRaster offBoundary outside unloaded refusal count operation layers picture changed sourced afterFrame afterRegister next
+unfolding newReader complete badPad waits opens draws byte reads sound chunk chunks ended word writeAt goodHeader ran apply refuse resetCard rowAt rowIn table bit number result made byteAt from before drawn counted differing listed drawnAll changedAll spanned modeOf frameSpan spansOf effectiveBy badLength badSpace badLanes noRegister badMode badRaster offBoundary outside unloaded wildWalk noLine walks refusal count operation layers picture changed sourced movedLine afterFrame afterRegister next
 arrived = (refl, refl, refl, refl, refl)
 
 pub broken-off : after 7 ≡ nothing 10 (resetCard 0) (replicate 64 0)

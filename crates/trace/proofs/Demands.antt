@@ -58,7 +58,7 @@ changed-bound h (refused n) = h
 changed-bound h (applied {w = w} {s = s} e p) = changed-bound (omega (arith, within (s .card) w (s .picture))) p
 
 -- a number from the engine
-runs-number : {ws : List Write} {b k : ℕ} {s r : State} → s .number ≡ 0 → Runs ws b s k r → r .number ≤ 9
+runs-number : {ws : List Write} {b k : ℕ} {s r : State} → s .number ≡ 0 → Runs ws b s k r → r .number ≤ 13
 unfolding apply refuse
 runs-number z ends = omega arith
 runs-number z spent = omega arith
@@ -86,7 +86,7 @@ ends-so z (applied e p) = one-more (ends-so refl p)
 -- what holds of every run
 pub record Outcome (part : List ℕ) (b : ℕ) (c : Card) (v : List ℕ) (s : State) : Type 0 where
   -- demand 1: one of the numbers 0 to 10
-  pub number : s .number ≤ 10
+  pub number : s .number ≤ 13
   -- never above the budget, the part or the largest number
   pub within-budget : s .applied ≤ b
   pub within-part : entrySize * s .applied ≤ length part
@@ -99,7 +99,7 @@ pub record Outcome (part : List ℕ) (b : ℕ) (c : Card) (v : List ℕ) (s : St
   pub shows : s .picture ≡ pictureAfter (take (s .applied) (writes part)) c v
   pub leaves : s .card ≡ cardAfter (take (s .applied) (writes part)) c v
 
-nothing-drawn : (part : List ℕ) (b : ℕ) (c : Card) (v : List ℕ) (n : ℕ) → n ≤ 10 → Outcome part b c v (nothing n c v)
+nothing-drawn : (part : List ℕ) (b : ℕ) (c : Card) (v : List ℕ) (n : ℕ) → n ≤ 13 → Outcome part b c v (nothing n c v)
 unfolding pictureAfter cardAfter
 nothing-drawn part b c v n h =
     record {

@@ -12,9 +12,9 @@ use Rattle.card.specs.declared.Write.{Write}
 use Rattle.card.specs.Registers.{rowAt, rowIn, table}
 use Rattle.card.specs.Reset.{resetCard}
 use Rattle.rules.specs.Modes.{modeOf, frameSpan, effectiveBy}
-use Rattle.rules.specs.Lines.{spansOf}
-use Rattle.rules.specs.Refusal.{badLength, badSpace, badLanes, noRegister, badMode, badRaster, offBoundary, outside, unloaded, refusal}
-use Rattle.rules.specs.Writes.{count, operation, layers, picture, changed, sourced, afterFrame, afterRegister, next}
+use Rattle.rules.specs.Lines.{walks, spansOf}
+use Rattle.rules.specs.Refusal.{badLength, badSpace, badLanes, noRegister, badMode, badRaster, offBoundary, outside, unloaded, wildWalk, noLine, refusal}
+use Rattle.rules.specs.Writes.{count, operation, layers, picture, changed, sourced, movedLine, afterFrame, afterRegister, next}
 use Rattle.rules.proofs.Samples.{S1, S2, S3, S4, S5, S6, S7, S8, S9, S10, S11, samples}
 use Rattle.format.specs.Bytes.{word, bytes}
 use Rattle.trace.specs.Run.{State, nothing, apply, refuse, ran}
@@ -50,5 +50,5 @@ there-and-back =
     ran (s1-write ∷ record { space = 0; lanes = 15; address = 0; «data» = 0 } ∷ []) 2 (nothing 0 (resetCard 0) (replicate 64 0))
 
 pub changed-twice : (there-and-back .changed ≡ 8) × (there-and-back .picture ≡ replicate 64 0)
-unfolding ran apply refuse resetCard rowAt rowIn table bit number result made byte from before drawn counted differing listed drawnAll changedAll spanned modeOf frameSpan spansOf effectiveBy badLength badSpace badLanes noRegister badMode badRaster offBoundary outside unloaded refusal count operation layers picture changed sourced afterFrame afterRegister next
+unfolding ran apply refuse resetCard rowAt rowIn table bit number result made byte from before drawn counted differing listed drawnAll changedAll spanned modeOf frameSpan spansOf effectiveBy badLength badSpace badLanes noRegister badMode badRaster offBoundary outside unloaded wildWalk noLine walks refusal count operation layers picture changed sourced movedLine afterFrame afterRegister next
 changed-twice = (refl, refl)

@@ -9,6 +9,7 @@ struct Registers {
     plane: u32,
     mode: u32,
     raster: u32,
+    bresenham: [u32; 3],
     fill: u32,
     block: [u32; 8],
 }
@@ -27,30 +28,42 @@ struct Copier {
 }
 
 #[repr(C)]
+struct Line {
+    place: i32,
+    error: i32,
+    kept: u32,
+}
+
+#[repr(C)]
 pub struct Card {
     registers: Registers,
     mask: Mask,
     copier: Copier,
+    line: Line,
     held: u32,
 }
 
 const _: () = {
     use std::mem::offset_of;
-    assert!(size_of::<Registers>() == 56 && size_of::<Mask>() == 8);
-    assert!(size_of::<Copier>() == 72 && size_of::<Card>() == 140);
+    assert!(size_of::<Registers>() == 68 && size_of::<Mask>() == 8);
+    assert!(size_of::<Copier>() == 72 && size_of::<Line>() == 12 && size_of::<Card>() == 164);
     assert!(offset_of!(Card, registers.foreground) == 0);
     assert!(offset_of!(Card, registers.background) == 4);
     assert!(offset_of!(Card, registers.plane) == 8);
     assert!(offset_of!(Card, registers.mode) == 12);
     assert!(offset_of!(Card, registers.raster) == 16);
-    assert!(offset_of!(Card, registers.fill) == 20);
-    assert!(offset_of!(Card, registers.block) == 24);
-    assert!(offset_of!(Card, mask.bits) == 56);
-    assert!(offset_of!(Card, mask.marked) == 60);
-    assert!(offset_of!(Card, copier.buffer) == 64);
-    assert!(offset_of!(Card, copier.loaded) == 128);
-    assert!(offset_of!(Card, copier.writing) == 132);
-    assert!(offset_of!(Card, held) == 136);
+    assert!(offset_of!(Card, registers.bresenham) == 20);
+    assert!(offset_of!(Card, registers.fill) == 32);
+    assert!(offset_of!(Card, registers.block) == 36);
+    assert!(offset_of!(Card, mask.bits) == 68);
+    assert!(offset_of!(Card, mask.marked) == 72);
+    assert!(offset_of!(Card, copier.buffer) == 76);
+    assert!(offset_of!(Card, copier.loaded) == 140);
+    assert!(offset_of!(Card, copier.writing) == 144);
+    assert!(offset_of!(Card, line.place) == 148);
+    assert!(offset_of!(Card, line.error) == 152);
+    assert!(offset_of!(Card, line.kept) == 156);
+    assert!(offset_of!(Card, held) == 160);
 };
 
 impl From<&model::Card> for Card {
@@ -62,6 +75,7 @@ impl From<&model::Card> for Card {
                 plane: card.plane,
                 mode: card.mode,
                 raster: card.raster,
+                bresenham: card.bresenham,
                 fill: card.data,
                 block: card.block,
             },
@@ -74,6 +88,11 @@ impl From<&model::Card> for Card {
                 loaded: card.loaded,
                 writing: card.writing,
             },
+            line: Line {
+                place: card.place,
+                error: card.error,
+                kept: card.kept,
+            },
             held: card.held,
         }
     }
@@ -85,6 +104,7 @@ impl From<&Card> for model::Card {
             registers,
             mask,
             copier,
+            line,
             held,
         } = card;
         model::Card {
@@ -94,12 +114,16 @@ impl From<&Card> for model::Card {
             pixel: mask.bits,
             mode: registers.mode,
             raster: registers.raster,
+            bresenham: registers.bresenham,
             data: registers.fill,
             block: registers.block,
             buffer: copier.buffer,
             marked: mask.marked,
             loaded: copier.loaded,
             writing: copier.writing,
+            place: line.place,
+            error: line.error,
+            kept: line.kept,
             held: *held,
         }
     }

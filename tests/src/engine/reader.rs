@@ -24,7 +24,7 @@ pub struct Fed {
 
 const _: () = {
     use std::mem::offset_of;
-    assert!(size_of::<Reader>() == 44 && size_of::<Fed>() == 184);
+    assert!(size_of::<Reader>() == 44 && size_of::<Fed>() == 208);
     assert!(offset_of!(Reader, number) == 0);
     assert!(offset_of!(Reader, opened) == 4);
     assert!(offset_of!(Reader, announced) == 8);
