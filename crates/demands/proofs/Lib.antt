@@ -4,6 +4,8 @@ pub mod Counting
 pub mod Demand1
 pub mod Demand2
 pub mod Demand3
+pub mod Twice
+pub mod Lines
 pub mod Witness
 pub mod Changed
 pub mod ChangedSample

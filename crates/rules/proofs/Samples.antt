@@ -20,23 +20,23 @@ use Rattle.rules.specs.Writes.{count, operation, layers, picture, change
 use Rattle.rules.specs.Sequences.{cardAfter, pictureAfter}
 
 -- a frame write with all four lanes, and a register write
-abbrev frame : ℕ → ℕ → Write
+abbrev pub frame : ℕ → ℕ → Write
 frame a d = record { space = 0; lanes = 15; address = a; «data» = d }
 
-abbrev reg : ℕ → ℕ → Write
+abbrev pub reg : ℕ → ℕ → Write
 reg a d = record { space = 1; lanes = 15; address = a; «data» = d }
 
-abbrev zeros : ℕ → List ℕ
+abbrev pub zeros : ℕ → List ℕ
 zeros n = replicate n 0
 
 -- what the last write of a list leaves, counts and answers, from reset with no plane held on 64 zeros
-abbrev shows : List Write → Write → List ℕ
+abbrev pub shows : List Write → Write → List ℕ
 shows ws w = pictureAfter (ws ++ (w ∷ [])) (resetCard 0) (zeros 64)
 
-abbrev counts : List Write → Write → ℕ
+abbrev pub counts : List Write → Write → ℕ
 counts ws w = count (cardAfter ws (resetCard 0) (zeros 64)) w 64
 
-abbrev answers : List Write → Write → ℕ
+abbrev pub answers : List Write → Write → ℕ
 answers ws w = refusal (cardAfter ws (resetCard 0) (zeros 64)) w 64
 
 abbrev pub S1 : Type 0
@@ -130,7 +130,7 @@ abbrev pub LowestFirst : Type 0
 LowestFirst = (shows masked (frame 0 0xF) ≡ replicate 4 1 ++ (replicate 4 2 ++ zeros 56)) × (counts masked (frame 0 0xF) ≡ 8)
 
 -- how many pixels the last write of a list changes
-abbrev changes : List Write → Write → ℕ
+abbrev pub changes : List Write → Write → ℕ
 changes ws w = changed (cardAfter ws (resetCard 0) (zeros 64)) w (pictureAfter ws (resetCard 0) (zeros 64))
 
 -- Ask 4, worked out by hand from the pictures of S1 to S8, S10 and S11: in S8 one pixel of the four enabled changes, in S10 pixel 32 takes the 0 that it has, and what is refused changes none
