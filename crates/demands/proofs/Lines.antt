@@ -190,6 +190,6 @@ module _ (c : Card) (w : Write) (n : ℕ) (goes : walks c w ≡ true) (ok : refu
   unfolding lineLeft
   error-kept =
       let (low, high) = both (leb (end .error .less) (end .error .more + 32768)) _ error-fits in
-      let l = leb-true _ _ low in
-      let u = ltb-true _ _ high in
-      word-holds (end .error) (omega (arith, l), omega (arith, u))
+      let l : end .error .less ≤ end .error .more + 32768 = leb-true _ _ low in
+      let u : end .error .more < end .error .less + 32768 = ltb-true _ _ high in
+      word-holds (end .error) (omega arith, omega arith)
