@@ -21,26 +21,30 @@ fn says(group: &[u8], right: u32, all: u32) {
 }
 
 fn registers() {
-    says(b"readings at reset: ", readings::at_reset(0), 17);
+    says(b"readings at reset: ", readings::at_reset(0), 20);
     says(
         b"readings at reset, planes held: ",
         readings::at_reset(0xA5),
-        17,
+        20,
     );
-    says(b"readings after writes: ", readings::after_writes(), 17);
+    says(b"readings after writes: ", readings::after_writes(), 20);
     says(b"pixel mask at both offsets: ", readings::pixel_mask(), 10);
-    says(b"bits that read as zero: ", readings::ignored_bits(), 6);
+    says(b"bits that read as zero: ", readings::ignored_bits(), 8);
     says(
         b"bits that read as zero, handed in: ",
         readings::handed_in(),
-        3,
+        4,
     );
 }
 
 fn unlisted() {
-    says(b"offsets not listed, below 1000h: ", offsets::low(), 4079);
+    says(b"offsets not listed, below 1000h: ", offsets::low(), 4076);
     says(b"offsets not listed, above: ", offsets::high(), 6);
-    says(b"0160h and 0164h, write only: ", offsets::write_only(), 6);
+    says(
+        b"004Ch, 0160h and 0164h, write only: ",
+        offsets::write_only(),
+        12,
+    );
 }
 
 fn read_back() {

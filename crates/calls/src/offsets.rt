@@ -4,7 +4,9 @@ use crate::readings::reads;
 use crate::readings::sent;
 use card::Card;
 
-// The 64-byte copy.
+// Continue, and the 64-byte copy.
+const CONTINUE: u32 = 0x004C;
+
 const SOURCE: u32 = 0x0160;
 
 const DESTINATION: u32 = 0x0164;
@@ -12,13 +14,13 @@ const DESTINATION: u32 = 0x0164;
 // The offsets that can be read.
 fn listed(offset: u32) -> bool {
     match offset {
-        0x20 | 0x24 | 0x28 | 0x2C | 0x30 | 0x34 | 0x38 | 0x5C | 0x80 => true,
+        0x20 | 0x24 | 0x28 | 0x2C | 0x30 | 0x34 | 0x38 | 0x40 | 0x44 | 0x48 | 0x5C | 0x80 => true,
         0x140 | 0x144 | 0x148 | 0x14C | 0x150 | 0x154 | 0x158 | 0x15C => true,
         _ => false,
     }
 }
 
-// Every other offset below 1000h, 0160h and 0164h among them.
+// Every other offset below 1000h, 004Ch, 0160h and 0164h among them.
 pub(crate) fn low() -> u32 {
     let card = all_written();
     let mut t: u32 = 0;
@@ -43,12 +45,20 @@ pub(crate) fn high() -> u32 {
     reads(t, card, 0xFFFF_FFFF, 4, 0)
 }
 
-// At reset, with a source loaded, and with that copied.
+fn none_reads(right: u32, card: Card) -> u32 {
+    let t = reads(right, card, CONTINUE, 4, 0);
+    let t = reads(t, card, SOURCE, 4, 0);
+    reads(t, card, DESTINATION, 4, 0)
+}
+
+// At reset, with a source loaded, with that copied, and after a line.
 pub(crate) fn write_only() -> u32 {
     let card = Card::reset(0);
-    let t = reads(reads(0, card, SOURCE, 4, 0), card, DESTINATION, 4, 0);
+    let t = none_reads(0, card);
     let card = sent(card, 1, SOURCE, 0);
-    let t = reads(reads(t, card, SOURCE, 4, 0), card, DESTINATION, 4, 0);
+    let t = none_reads(t, card);
     let card = sent(card, 1, DESTINATION, 0);
-    reads(reads(t, card, SOURCE, 4, 0), card, DESTINATION, 4, 0)
+    let t = none_reads(t, card);
+    let card = sent(card, 1, 0x0030, 0x8006);
+    none_reads(t, sent(card, 0, 0, 1))
 }

@@ -63,8 +63,13 @@ module _ (a : ℕ) (c : Card) (w : Write) where
   spans-same : spansOf (withOperation a c) w ≡ spansOf c w
   unfolding spansOf
   spans-same =
-      rw (walks-same, visits-same, frame-same a c w (modeOf (c .registers .mode)), dots-same a c w (isOpaqueLine (modeOf (c .registers .mode)))
-      (capped (c .registers .mode)) 0 (visitsOf c w))
+      rw (
+        walks-same,
+        visits-same,
+        frame-same a c w (modeOf (c .registers .mode)),
+        dots-same a c w (isOpaqueLine (modeOf (c .registers .mode)))
+            (capped (c .registers .mode)) 0 (visitsOf c w),
+      )
 
   raster-same : ltb 15 (c .registers .raster / 16 * 16 + a % 16) ≡ ltb 15 (c .registers .raster)
   raster-same = same-test 15 (c .registers .raster / 16 * 16 + a % 16) 15 (c .registers .raster) (λ h. omega arith) (λ h. omega arith)

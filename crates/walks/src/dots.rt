@@ -47,7 +47,15 @@ fn colour(bit: bool, foreground: u32, background: u32) -> u32
 }
 
 // Visit i, at address p.
-fn visit(card: Card, w: Write, opaque: bool, shown: bool, i: u32, p: usize, vram: &mut [u8]) -> Tally
+fn visit(
+    card: Card,
+    w: Write,
+    opaque: bool,
+    shown: bool,
+    i: u32,
+    p: usize,
+    vram: &mut [u8],
+) -> Tally
     requires { ⌜ (p < length (now vram)) × (i < 16) ⌝ }
     ensures { λ r. ⌜ Dotted card (dotAt opaque shown card w i p) (now (vram .entry)) r (now (vram .exit)) ⌝ }
 {

@@ -14,7 +14,9 @@ const WORD: u64 = 4294967296;
 
 // Half of all numbers of 16, of 17 and of 32 bits: from there on a field is below 0.
 const HALF_OF_16: u64 = 32768;
+
 const HALF_OF_17: u64 = 65536;
+
 const HALF_OF_32: u64 = 2147483648;
 
 pub(crate) fn natural(n: u64) -> Whole

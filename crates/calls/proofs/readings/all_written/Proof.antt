@@ -6,10 +6,10 @@ use Rattle.calls.proofs.readings.all_written.Statement.{statement}
 use Rattle.calls.proofs.readings.all_written.Tie as tie
 
 abbrev Inv-loop : tie.InvT-loop
-Inv-loop card₀ i₀ card i = i ≤ 17
+Inv-loop card₀ i₀ card i = i ≤ 20
 
 abbrev μ-loop : tie.MeasureT-loop
-μ-loop card₀ i₀ card i = 17 - i
+μ-loop card₀ i₀ card i = 20 - i
 
 reset-requires : tie.Need-reset-requires Inv-loop μ-loop
 reset-requires c κs = search needs

@@ -6,10 +6,10 @@ use Rattle.calls.proofs.readings.column.Statement.{statement}
 use Rattle.calls.proofs.readings.column.Tie as tie
 
 abbrev Inv-loop : tie.InvT-loop
-Inv-loop card k t₀ i₀ t i = i ≤ 17
+Inv-loop card k t₀ i₀ t i = i ≤ 20
 
 abbrev μ-loop : tie.MeasureT-loop
-μ-loop card k t₀ i₀ t i = 17 - i
+μ-loop card k t₀ i₀ t i = 20 - i
 
 loop-holds : tie.Need-loop-holds Inv-loop μ-loop
 loop-holds c = omega arith

@@ -8,7 +8,7 @@ use borrow.Author.Needs.{needs}
 use Rattle.rules.proofs.Tests.{or-false}
 use Rattle.walks.specs.Reach.{Near}
 use Rattle.walks.proofs.Fields.{nearer, stepped-near}
-use Rattle.walks.proofs.Visits.{ walked-next, strays-turn, wild-turn}
+use Rattle.walks.proofs.Visits.{walked-next, strays-turn, wild-turn}
 use Rattle.walks.proofs.steps.judge.Statement.{statement}
 use Rattle.walks.proofs.steps.judge.Tie as tie
 use Rattle.walks.proofs.steps.or.Reads as or-reads
