@@ -193,25 +193,34 @@ const RUNS: [Run; 5] = [
     Run(&[(0, 0x44332211), (64, 0x44332211)], [8, 1, 4, 4]),
 ];
 
+/// What makes a write: the model's, or another's.
+type Entry = fn(&mut Card, &mut [u8], Write) -> Answer;
+
+/// Runs the samples that are writes, and counts them.
+pub fn check_writes(write: Entry) -> Result<usize, String> {
+    for sample in SAMPLES.iter().chain(lines::SAMPLES) {
+        check_one(write, sample).map_err(|why| format!("{}: {why}", sample.name))?;
+    }
+    Ok(SAMPLES.len() + lines::SAMPLES.len())
+}
+
 /// Runs every sample on the model and counts them.
 pub fn check_all() -> Result<usize, String> {
-    for sample in SAMPLES.iter().chain(lines::SAMPLES) {
-        check_one(sample).map_err(|why| format!("{}: {why}", sample.name))?;
-    }
+    let writes = check_writes(model::write)?;
     check_composites()?;
     check_trace()?;
     for run in &RUNS {
         check_run(run).map_err(|why| format!("run of {:X?}: {why}", run.0))?;
     }
-    Ok(SAMPLES.len() + lines::SAMPLES.len() + 2 + RUNS.len())
+    Ok(writes + 2 + RUNS.len())
 }
 
-fn check_one(sample: &Sample) -> Result<(), String> {
+fn check_one(write: Entry, sample: &Sample) -> Result<(), String> {
     let mut card = model::reset(sample.held);
     let mut vram: Vec<u8> = (0..sample.length).map(sample.before).collect();
     let mut expected = vram.clone();
     for step in sample.steps {
-        check_step(&mut card, &mut vram, step)?;
+        check_step(write, &mut card, &mut vram, step)?;
     }
     for (at, bytes) in sample.after {
         expected[*at..*at + bytes.len()].copy_from_slice(bytes);
@@ -225,9 +234,9 @@ fn check_one(sample: &Sample) -> Result<(), String> {
     }
 }
 
-fn check_step(card: &mut Card, vram: &mut [u8], step: &Step) -> Result<(), String> {
+fn check_step(write: Entry, card: &mut Card, vram: &mut [u8], step: &Step) -> Result<(), String> {
     let &Step(space, lanes, address, data, number, count, changed) = step;
-    let answer = model::write(
+    let answer = write(
         card,
         vram,
         Write {

@@ -1,4 +1,4 @@
-//! The engine against the model: the recorded traces and a textbook's lines, then numbered cases of writes of every kind, of opaque
+//! The engine against the model: the recorded traces, samples by hand and a textbook's lines, then numbered cases of writes of every kind, of opaque
 //! stipples, of traces, of calipers, of serial lines and of waveform lines.
 
 use super::calls::Calls;
@@ -11,6 +11,7 @@ use crate::generate::Maker;
 use crate::lines;
 use crate::random::Random;
 use crate::recorded;
+use crate::samples;
 
 pub(super) const ENGINE: Other = Other {
     reset: engine::reset,
@@ -21,6 +22,8 @@ pub(super) const ENGINE: Other = Other {
 pub fn compare(seed: u64, first: u64, last: u64) -> Outcome {
     let recorded = recorded::check_all(engine::run)?;
     println!("{recorded} recorded traces give their pictures on the engine");
+    let samples = samples::check_writes(engine::write)?;
+    println!("{samples} samples worked out by hand on the engine");
     let drawn = lines::check_all(engine::write)?;
     println!("{drawn} lines on the engine, every byte as in a textbook");
     println!("seed {seed}, cases {first} to {last}");
