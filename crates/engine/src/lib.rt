@@ -134,11 +134,11 @@ fn by_walk(card: Card, w: Write, vram: &mut [u8]) -> Answer
     ensures { λ r. ⌜ Written card w (now (vram .entry)) r (now (vram .exit)) ⌝ }
 {
     let walk = walks::draw(card, w, vram);
-    let number = walk.number;
+    let refused = walk.number;
     let tally = walk.tally;
-    if number != 0 {
+    if refused != 0 {
         return Answer {
-            number,
+            number: refused,
             tally,
             card,
         };

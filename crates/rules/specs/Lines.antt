@@ -66,6 +66,11 @@ unfoldable pub walked : (a b k : ℕ) → Visit → Visit
 walked a b zero s = s
 walked a b (suc k) s = walked a b k (stepped a b s)
 
+-- no visit at all
+abbrev pub none : List Visit → Bool
+none [] = true
+none (s ∷ ss) = false
+
 -- a visited place, drawn or not, lies outside a VRAM of n bytes
 abbrev pub strays : ℕ → List Visit → Bool
 strays n [] = false
@@ -115,10 +120,6 @@ addressOf s = s .place .more - s .place .less
 abbrev pub dot : (opaque shown : Bool) → Card → Write → (i p : ℕ) → Span
 dot opaque shown c w i p =
     span p 1 (λ j. shown && (opaque || bit (w .«data») i)) (λ j. cond (bit (w .«data») i) (foreground c p) (background c p))
-
-abbrev pub none : List Visit → Bool
-none [] = true
-none (s ∷ ss) = false
 
 -- the last visit draws nothing unless the cap bit is set
 unfoldable pub dots : (opaque cap : Bool) → Card → Write → ℕ → List Visit → List Span
