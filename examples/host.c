@@ -1,6 +1,6 @@
 /* A host in C that keeps one card. It fills a picture grey around marks in a held plane, then draws a caliper by exclusive-or
- * from a recorded trace and takes it off again: by the same trace, on the same card. It says what it sees and what is
- * answered, the pixels enabled and those changed, and ends with 1 where something is not as promised. */
+ * from a recorded trace and takes it off again: by the same trace, on the same card; and then a stroke of a waveform. It says
+ * what it sees and what is answered, the pixels enabled and those changed, and ends with 1 where something is not as promised. */
 #include <stdio.h>
 #include <stdlib.h>
 #include <string.h>
@@ -8,7 +8,8 @@
 
 enum { SIDE = 64, SIZE = SIDE * SIDE, HELD = 0x80, GREY = 0x40 };
 enum { FRAME, REGISTER, FOREGROUND = 0x20, BACKGROUND = 0x24, ONE_SHOT = 0x2C, MODE = 0x30, RASTER = 0x34, FILL_MASK = 0x80 };
-enum { OPAQUE = 0x01, STIPPLE = 0x05, FILL = 0x45, XOR = 6 };
+enum { BRESENHAM_1 = 0x40, BRESENHAM_2 = 0x44, BRESENHAM_3 = 0x48, CONTINUE = 0x4C };
+enum { OPAQUE = 0x01, STIPPLE = 0x05, FILL = 0x45, LINE = 0x8006, COPY = 3, XOR = 6 };
 
 static struct zevkholtai_card card;
 static uint8_t vram[SIZE], marks[SIZE], filled[SIZE], trace[16 + 12 * SIDE];
@@ -47,6 +48,18 @@ static int differing(const uint8_t *a, const uint8_t *b) {
     return n;
 }
 
+/* A line from column x of row y, as include/zevkholtai.h says: so many columns to the right, and fewer rows up. */
+static uint32_t line(int x, int y, int columns, int rows) {
+    uint32_t first = (uint32_t)(y * SIDE + x), length = (uint32_t)columns + 1, drawn = 0;
+    draw(REGISTER, MODE, LINE);
+    draw(REGISTER, BRESENHAM_1, 1u << 16 | 2u * (uint32_t)rows);
+    draw(REGISTER, BRESENHAM_2, (uint32_t)(1 - SIDE) << 16 | 2u * (uint32_t)(columns - rows));
+    draw(REGISTER, BRESENHAM_3, (uint32_t)(2 * rows - columns) << 15 | length % 16);
+    drawn += draw(FRAME, first / 4 * 4, first % 4 << 16 | 0xFFFF).count;
+    while (drawn < length) drawn += draw(REGISTER, CONTINUE, 0xFFFF).count;
+    return drawn;
+}
+
 int main(void) {
     for (int i = 0; i < SIDE; i++) vram[i * SIDE + i] = HELD;
     memcpy(marks, vram, SIZE);
@@ -80,6 +93,15 @@ int main(void) {
         promised(n == (turn == 0 ? 56 : 0), "a caliper");
         printf("caliper %s: %u pixels changed, %d differ from the fill\n", turn == 0 ? "drawn" : "taken off", (unsigned)r.changed, n);
     }
+
+    memcpy(vram, filled, SIZE);
+    draw(REGISTER, RASTER, COPY);
+    draw(REGISTER, FOREGROUND, 0x20202020);
+    uint32_t drawn = line(2, 40, 56, 30);
+    promised(drawn == 57 && differing(vram, filled) == 57, "a line of 57 pixels");
+    promised((vram[40 * SIDE + 2] & 0x7F) == 0x20 && (vram[10 * SIDE + 58] & 0x7F) == 0x20, "both ends of the line");
+    printf("line of 57 pixels: one line of 9 and three continues\n");
+    memcpy(filled, vram, SIZE);
 
     struct zevkholtai_card before = card;
     struct zevkholtai_answer a = zevkholtai_write(&card, FRAME, 15, 62, 1, vram, SIZE);

@@ -37,9 +37,9 @@
  *    s << 16 | 2 * minor,  (s + t) << 16 | 2 * (major - minor)  and  (2 * minor - major) << 15 | length % 16
  *
  * and write, in mode 8002h (opaque) or 8006h (transparent), at the address of the first pixel less its bits 1:0, those bits
- * << 16 | a mask: bit i for pixel i. `length` is major + 1, or 16 where that is more; each continue (004Ch), a mask, goes 16
- * pixels on, and its mask leaves out what the line has not. All 16 places must lie inside VRAM; where they do not, start the
- * rest as a line of its own, with the error that the card keeps in line.error. Modes 0002h and 0006h leave the last pixel out.
+ * << 16 | FFFFh. `length` is major + 1 pixels: this draws length % 16 of them, 16 where that is 0, and each continue that
+ * follows (a write of FFFFh at 004Ch) 16 more, so that no place past the line's end is visited. A mask other than FFFFh draws
+ * pixel i of the write by its bit i. Modes 0002h and 0006h leave the last pixel of each write out. See examples/host.c.
  */
 #ifndef ZEVKHOLTAI_H
 #define ZEVKHOLTAI_H

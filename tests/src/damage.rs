@@ -2,6 +2,7 @@
 
 use crate::generate::Maker;
 use crate::listed::mode;
+use crate::listed::{BRESENHAM_1, BRESENHAM_2, BRESENHAM_3, CONTINUE};
 use crate::model::trace::{self, ENTRY, HEADER};
 use crate::model::{self, refusal, Card, Write, REGISTER};
 
@@ -16,6 +17,25 @@ type Next = fn(&mut Maker, &Card, usize) -> Write;
 /// Writes of every kind for a trace from reset.
 pub fn writes(maker: &mut Maker, length: usize, entries: usize, rare: u64) -> Vec<Write> {
     list(maker, Maker::write, length, entries, rare)
+}
+
+/// Accepted writes for a trace from reset that libraries from before Ask 5 can take too: no lines, and none of their registers.
+pub fn without_lines(maker: &mut Maker, length: usize, entries: usize) -> Vec<Write> {
+    list(maker, no_line, length, entries, NEVER)
+}
+
+fn no_line(maker: &mut Maker, card: &Card, length: usize) -> Write {
+    loop {
+        let write = maker.write(card, length);
+        let of_lines = match write.address {
+            BRESENHAM_1 | BRESENHAM_2 | BRESENHAM_3 | CONTINUE => true,
+            0x0030 => mode::is_line(write.data),
+            _ => false,
+        };
+        if write.space != REGISTER || !of_lines {
+            return write;
+        }
+    }
 }
 
 /// Opaque stipples for a trace from reset, and the register writes that they go by.

@@ -1,4 +1,4 @@
-//! A trace of mixed entries from reset: run whole, and read in chunks. The plain implementation makes its writes one by one.
+//! A trace of mixed entries from reset, lines left out: run whole, and read in chunks. The plain implementation makes its writes one by one.
 
 use super::library::{self, Library, Other, This, OTHER};
 use super::rows::{Row, VRAM};
@@ -32,7 +32,7 @@ const WAYS: [(&str, Way); 3] = [
 /// The rows, with what each measures. Spans differ from entry to entry, so no pixels are shown.
 pub fn rows() -> impl Iterator<Item = (Row, Way)> {
     let mut maker = Maker::new(Random::of_case(1, 2));
-    let writes = damage::writes(&mut maker, VRAM, ENTRIES, damage::NEVER);
+    let writes = damage::without_lines(&mut maker, VRAM, ENTRIES);
     WAYS.into_iter().map(move |(name, way)| {
         let row = Row {
             name: String::from(name),
