@@ -94,7 +94,6 @@ int main(void) {
         printf("caliper %s: %u pixels changed, %d differ from the fill\n", turn == 0 ? "drawn" : "taken off", (unsigned)r.changed, n);
     }
 
-    memcpy(vram, filled, SIZE);
     draw(REGISTER, RASTER, COPY);
     draw(REGISTER, FOREGROUND, 0x20202020);
     uint32_t drawn = line(2, 40, 56, 30);

@@ -32,14 +32,15 @@
  *
  * To draw a line from one pixel to another, let `major` be the larger and `minor` the smaller of the two distances, in columns
  * and rows, and s and t the steps of an address along them (1 or -1 for a column, the screen's width or its negative for a
- * row). Set Bresenham 1, 2 and 3 (0040h, 0044h, 0048h), each increment as 16 bits of two's complement, to
+ * row). Set Bresenham 1, 2 and 3 (0040h, 0044h, 0048h), each increment as 16 bits of two's complement, in uint32_t, to
  *
  *    s << 16 | 2 * minor,  (s + t) << 16 | 2 * (major - minor)  and  (2 * minor - major) << 15 | length % 16
  *
  * and write, in mode 8002h (opaque) or 8006h (transparent), at the address of the first pixel less its bits 1:0, those bits
  * << 16 | FFFFh. `length` is major + 1 pixels: this draws length % 16 of them, 16 where that is 0, and each continue that
  * follows (a write of FFFFh at 004Ch) 16 more, so that no place past the line's end is visited. A mask other than FFFFh draws
- * pixel i of the write by its bit i. Modes 0002h and 0006h leave the last pixel of each write out. See examples/host.c.
+ * pixel i of the write by its bit i. Modes 0002h and 0006h leave the last pixel of each write out. Distances may be up to
+ * 16,383. See examples/host.c.
  */
 #ifndef ZEVKHOLTAI_H
 #define ZEVKHOLTAI_H

@@ -21,13 +21,15 @@ pub struct Screen {
 /// A pixel as column and row.
 pub type Point = (i64, i64);
 
-/// How what is left of a line is drawn.
+/// How a line of more than sixteen pixels is drawn.
 #[derive(Clone, Copy, PartialEq, Eq)]
 pub enum Rest {
     /// By a continue, the bits past the line's end clear, wherever its visits stay in VRAM; so for transparent lines alone.
     Continued,
     /// By a continue where all its sixteen pixels are wanted, else by a fresh line of the length left.
     Fresh,
+    /// By whole continues alone: the line takes the pixels that they leave. include/zevkholtai.h has it so.
+    Whole,
 }
 
 /// A line as the driver sees it: so many major steps, and among them, as evenly as can be, so many minor ones.
@@ -130,7 +132,10 @@ fn ones(pixels: i64) -> u32 {
 pub fn writes(screen: Screen, from: Point, to: Point, rest: Rest) -> Vec<Write> {
     let line = Line::new(screen, from, to);
     let mut writes = line.increments().to_vec();
-    let mut drawn = line.pixels().min(PIECE);
+    let mut drawn = match rest {
+        Rest::Whole => (line.pixels() - 1) % PIECE + 1,
+        _ => line.pixels().min(PIECE),
+    };
     writes.extend(line.piece(0, drawn));
     while drawn < line.pixels() {
         let wanted = (line.pixels() - drawn).min(PIECE);
@@ -244,13 +249,15 @@ impl Sheet {
         Ok(())
     }
 
-    /// One pair of end points, by continues and by fresh lines; where one write does it, also without its last pixel.
+    /// One pair of end points, in each of the three ways; where one write does it, also without its last pixel.
     fn pair(&mut self, from: Point, to: Point) -> Result<(), String> {
         let whole = self.expected(from, to, true);
         let continued = writes(self.screen, from, to, Rest::Continued);
         let fresh = writes(self.screen, from, to, Rest::Fresh);
         self.check(TRANSPARENT_LINE | CAP, &continued, &whole)?;
         self.check(OPAQUE_LINE | CAP, &fresh, &whole)?;
+        let in_sixteens = writes(self.screen, from, to, Rest::Whole);
+        self.check(OPAQUE_LINE | CAP, &in_sixteens, &whole)?;
         if whole.1 <= PIECE as u32 {
             let without = self.expected(from, to, false);
             self.check(OPAQUE_LINE, &fresh, &without)?;

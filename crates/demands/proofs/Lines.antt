@@ -2,8 +2,8 @@
 use mathlib.Core.Path.{_≡_, refl, ap, sym, _∙_, subst}
 use mathlib.Core.Bool.{Bool, true, false, cond, not, _&&_, _||_, false≢true}
 use mathlib.Core.List.{List, [], _∷_}
-use mathlib.Core.Logic.{_⊎_, inl, inr}
-use Prim.Native.Nat.{ℕ, zero, suc, _+_, _-_, _/_, _%_, _^_, _≤_, _<_}
+use mathlib.Core.Logic.{inl, inr}
+use Prim.Native.Nat.{ℕ, zero, suc, _+_, _-_, _/_, _%_, _≤_, _<_}
 use native.Mathlib.Decide.{decLt, ℕ-discrete}
 use native.Mathlib.Omega.{arith}
 use lib.Dec.{eqb, leb, ltb}
@@ -19,10 +19,10 @@ use Rattle.card.specs.declared.Register.the-variants.{Continue}
 use Rattle.rules.specs.Modes.{registerOf}
 use Rattle.rules.specs.Lines.{plus, minus, signed, word, within, inSixteenBits, belowZero, stepped, visits, walked, strays, wild, walks, start, visitCount, visitsOf, lineLeft, addressOf, none, dot, dots, lineLength, spansOf}
 use Rattle.rules.specs.Refusal.{names, badLength, largestVram, past, outside, wildWalk, noLine, refusal}
-use Rattle.rules.specs.Writes.{accepted, picture, movedLine, afterFrame, afterRegister, next}
+use Rattle.rules.specs.Writes.{picture, afterFrame, afterRegister, next}
 use Rattle.rules.specs.declared.Visit.{Visit}
 use Rattle.rules.specs.declared.Whole.{Whole}
-use Rattle.rules.proofs.Outcome.{accepted-passed, next-register, next-frame, next-refused}
+use Rattle.rules.proofs.Outcome.{accepted-passed, some-length, walks-continue, next-register, next-frame, next-refused}
 use Rattle.rules.proofs.Tests.{neither, both}
 use Rattle.demands.proofs.Demand2.{Misses, outside-stays}
 
@@ -35,14 +35,12 @@ registers-stay c w v goes = go (ℕ-discrete (refusal c w (length v)) 0) (ℕ-di
     go : Dec (refusal c w (length v) ≡ 0) → Dec (w .space ≡ 1) → next c w v .registers ≡ c .registers
     go (no h) d = ap (λ (x : Card). x .registers) (next-refused c w v h)
     go (yes ok) (yes h) =
-        let s = eq-eqb (w .space) 1 h in
-        let g : code (registerOf w) ≡ 10 = eqb-true (code (registerOf w)) 10 (rw s at goes) in
-        ap (λ (x : Card). x .registers) (next-register c w v ok h) ∙ rw g
+        ap (λ (x : Card). x .registers) (next-register c w v ok h) ∙ rw (walks-continue c w goes h)
     go (yes ok) (no h) = ap (λ (x : Card). x .registers) (next-frame c w v ok h)
 
 -- a single pixel misses every other byte
-elsewhere : (s : Span) → s .width ≡ 1 → (p : ℕ) → (s .first ≡ p → ⊥) → Misses p s
-elsewhere s one p h = go (decLt p (s .first)) (ℕ-discrete (s .first) p)
+missed : (s : Span) → s .width ≡ 1 → (p : ℕ) → (s .first ≡ p → ⊥) → Misses p s
+missed s one p h = go (decLt p (s .first)) (ℕ-discrete (s .first) p)
   where
     go : Dec (p < s .first) → Dec (s .first ≡ p) → Misses p s
     go (yes l) e = inl l
@@ -52,7 +50,7 @@ elsewhere s one p h = go (decLt p (s .first)) (ℕ-discrete (s .first) p)
 not-visited : (o k : Bool) (c : Card) (w : Write) (p i : ℕ) (ss : List Visit) → Each (λ s. addressOf s ≡ p → ⊥) ss → Each (Misses p) (dots o k c w i ss)
 unfolding dots
 not-visited o k c w p i [] e = tt
-not-visited o k c w p i (s ∷ ss) (e, es) = (elsewhere (dot o (k || not (none ss)) c w i (addressOf s)) refl p e, not-visited o k c w p (suc i) ss es)
+not-visited o k c w p i (s ∷ ss) (e, es) = (missed (dot o (k || not (none ss)) c w i (addressOf s)) refl p e, not-visited o k c w p (suc i) ss es)
 
 -- a byte at which no visit stands stays
 pub unvisited-stays : (c : Card) (w : Write) (v : List ℕ) (p : ℕ) → walks c w ≡ true → p < length v → Each (λ s. addressOf s ≡ p → ⊥) (visitsOf c w)
@@ -152,18 +150,14 @@ module _ (c : Card) (w : Write) (n : ℕ) (goes : walks c w ≡ true) (ok : refu
       yes-and true e y = refl
       yes-and false e y = absurd (false≢true e)
 
-      length-some : Dec (c .registers .bresenham3 % 16 ≡ 0) → 0 < lineLength (c .registers .bresenham3)
-      length-some (yes e) = rw (eq-eqb _ _ e) (omega arith)
-      length-some (no e) = rw (ne-eqb _ _ e) (omega arith)
-
       go : Dec (w .space ≡ 1) → 0 < visitCount c w
       go (yes h) =
           let s = eq-eqb (w .space) 1 h in
-          let g : code (registerOf w) ≡ 10 = eqb-true (code (registerOf w)) 10 (rw s at goes) in
+          let g = walks-continue c w goes h in
           let q : noLine c w ≡ false = accepted-passed c w n ok 10 in
           let k : not (isSet (c .line .kept)) ≡ false = sym (yes-and (names w Continue) (rw (s, g)) _) ∙ q in
           rw (s, not-false (isSet (c .line .kept)) k) (omega arith)
-      go (no h) = rw (ne-eqb (w .space) 1 h) (length-some (ℕ-discrete (c .registers .bresenham3 % 16) 0))
+      go (no h) = rw (ne-eqb (w .space) 1 h) (some-length (c .registers .bresenham3))
 
   again : suc (visitCount c w - 1) ≡ visitCount c w
   again = omega (arith, some-visits)

@@ -1,24 +1,24 @@
 -- What the visits of a line or a continue draw: no more pixels than there are visits, and none twice where no two have one place. The latter is
 -- the premise of `dots-apart`; the rest assumes nothing.
-use mathlib.Core.Path.{_≡_, refl, _∙_}
+use mathlib.Core.Path.{_≡_, refl}
 use mathlib.Core.Bool.{Bool, true, false, cond, not, _||_}
 use mathlib.Core.List.{List, [], _∷_, map}
 use mathlib.Core.Logic.{_⊎_, inl, inr}
-use Prim.Native.Nat.{ℕ, zero, suc, _%_, _+_, _≤_, _<_}
-use native.Mathlib.Decide.{decLt, ℕ-discrete}
+use Prim.Native.Nat.{ℕ, zero, suc, _%_, _≤_, _<_}
+use native.Mathlib.Decide.{ℕ-discrete}
 use native.Mathlib.Omega.{arith}
 use lib.Dec.{eqb}
 use lib.ListN.{length}
-use Rattle.span.specs.Fragments.{Fragment, stays}
-use Rattle.span.specs.Layers.{Each, Pairs, Apart, summed}
+use Rattle.span.specs.Fragments.{stays}
+use Rattle.span.specs.Layers.{Each, Apart, summed}
 use Rattle.span.specs.Spans.{Span, spanned, enabledIn}
 use Rattle.span.proofs.Counted.{counted-le}
-use Rattle.span.proofs.Spans.{spanned-before, spanned-past}
+use Rattle.span.proofs.Spans.{spanned-elsewhere}
 use Rattle.card.specs.Registers.{isSet}
 use Rattle.card.specs.declared.Card.{Card}
 use Rattle.card.specs.declared.Write.{Write}
 use Rattle.rules.specs.Modes.{modeOf, isOpaqueLine, effective}
-use Rattle.rules.specs.Lines.{visits, start, capped, stepped, lineLength, visitCount, visitsOf, addressOf, none, dot, dots, lineSpans}
+use Rattle.rules.specs.Lines.{visits, start, capped, stepped, visitCount, visitsOf, addressOf, none, dot, dots, lineSpans}
 use Rattle.rules.specs.Sequences.{Different}
 use Rattle.rules.specs.declared.Visit.{Visit}
 
@@ -57,22 +57,14 @@ line-enables c w =
 
 -- ---- None twice.
 
--- a single pixel leaves every other address
-elsewhere : (c : Card) (s : Span) → s .width ≡ 1 → (p : ℕ) → (p ≡ s .first → ⊥) → spanned (effective c) s p ≡ stays
-elsewhere c s one p h = go (decLt p (s .first))
-  where
-    go : Dec (p < s .first) → spanned (effective c) s p ≡ stays
-    go (yes l) = spanned-before (effective c) s p l
-    go (no l) = spanned-past (effective c) s p (omega arith)
-
 -- of two at different places, one leaves the byte
 one-leaves : (c : Card) (s t : Span) → s .width ≡ 1 → t .width ≡ 1 → (s .first ≡ t .first → ⊥) → (p : ℕ)
     → (spanned (effective c) s p ≡ stays) ⊎ (spanned (effective c) t p ≡ stays)
 one-leaves c s t es et h p = go (ℕ-discrete p (s .first))
   where
     go : Dec (p ≡ s .first) → (spanned (effective c) s p ≡ stays) ⊎ (spanned (effective c) t p ≡ stays)
-    go (yes e) = inr (elsewhere c t et p (λ q. h (omega arith)))
-    go (no e) = inl (elsewhere c s es p e)
+    go (yes e) = inr (spanned-elsewhere (effective c) t et p (λ q. h (omega arith)))
+    go (no e) = inl (spanned-elsewhere (effective c) s es p e)
 
 module _ (o k : Bool) (c : Card) (w : Write) where
   aside : (s : Span) → s .width ≡ 1 → (i : ℕ) (ss : List Visit) → Each (λ t. s .first ≡ addressOf t → ⊥) ss

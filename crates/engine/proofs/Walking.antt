@@ -1,18 +1,16 @@
 -- A line or a continue, walked, is what the definitions say of its write; and what the number of a write is, by the way that it goes. Assumes nothing.
-use mathlib.Core.Path.{_≡_, refl, ap, ap₂, sym, _∙_}
+use mathlib.Core.Path.{_≡_, refl, ap, sym, _∙_}
 use mathlib.Core.Bool.{Bool, true, false, cond, not, _&&_, _||_, false≢true}
 use mathlib.Core.List.{List, [], _∷_, map}
 use Prim.Native.Nat.{ℕ, _%_}
 use native.Mathlib.Decide.{ℕ-discrete}
 use native.Mathlib.Nat.{mod-eq-of-lt}
-use native.Mathlib.Omega.{arith}
 use lib.Dec.{T, eqb}
 use lib.ListN.{length}
 use borrow.Author.Tests.{eq-eqb, ne-eqb, eqb-true}
 use Rattle.raster.proofs.Below.{left, right, is-true}
 use Rattle.span.specs.Layers.{drawnAll, changedAll, summed}
 use Rattle.span.specs.Spans.{spanned, enabledIn}
-use Rattle.span.specs.declared.Tally.{Tally}
 use Rattle.card.specs.Registers.{code, table, rowIn, rowAt, _is_}
 use Rattle.card.specs.Access.{stores}
 use Rattle.card.specs.declared.Card.{Card}
@@ -26,7 +24,7 @@ use Rattle.rules.specs.Refusal.{refusal}
 use Rattle.rules.specs.Writes.{count, inBlockMode, operation, picture, changed, movedLine, afterFrame, afterRegister, next}
 use Rattle.rules.specs.declared.Mode.{Mode}
 use Rattle.rules.specs.declared.Mode.the-variants.{Simple, OpaqueStipple, TransparentStipple, OpaqueFill, TransparentFill, BlockStipple, BlockFill, Copy, OpaqueLine, TransparentLine, Unlisted}
-use Rattle.rules.proofs.Outcome.{accepted-raster, picture-accepted, changed-accepted, count-accepted, next-register, next-frame, picture-refused, changed-refused, count-refused, next-refused}
+use Rattle.rules.proofs.Outcome.{walks-continue, walks-line, accepted-raster, picture-accepted, changed-accepted, count-accepted, next-register, next-frame, picture-refused, changed-refused, count-refused, next-refused}
 use Rattle.plan.specs.Plan.{planOf, judged, walkNumber}
 use Rattle.plan.specs.declared.Plan.{Plan}
 use Rattle.plan.proofs.PlanNumber.{planned-number}
@@ -112,8 +110,7 @@ module _ (c : Card) (w : Write) (goes : walks c w ≡ true) (v : List ℕ) where
       go : Dec (w .space ≡ 1) → cond (inBlockMode c w) 3 (c .registers .raster) ≡ c .registers .raster
       go (yes h) = rw h
       go (no h) =
-          let l : isLine (modeOf (c .registers .mode)) ≡ true = rw (ne-eqb (w .space) 1 h) at goes in
-          rw (line-mode (modeOf (c .registers .mode)) l .0) (aside (eqb (w .space) 0))
+          rw (line-mode (modeOf (c .registers .mode)) (walks-line c w goes h) .0) (aside (eqb (w .space) 0))
         where
           aside : (b : Bool) → cond (b && false) 3 (c .registers .raster) ≡ c .registers .raster
           aside true = refl
@@ -143,11 +140,10 @@ module _ (c : Card) (w : Write) (goes : walks c w ≡ true) (v : List ℕ) where
         go : Dec (w .space ≡ 1) → walkedOn c w (lineLeft c w) ≡ next c w v
         go (yes h) =
             let s = eq-eqb (w .space) 1 h in
-            let g : code (registerOf w) ≡ 10 = eqb-true (code (registerOf w)) 10 (rw s at goes) in
-            sym (next-register c w v ok h ∙ rw (s, g))
+            sym (next-register c w v ok h ∙ rw (s, walks-continue c w goes h))
         go (no h) =
             let s = ne-eqb (w .space) 1 h in
-            let l : isLine (modeOf (c .registers .mode)) ≡ true = rw s at goes in
+            let l = walks-line c w goes h in
             sym (next-frame c w v ok h ∙ rw (s, l, line-mode (modeOf (c .registers .mode)) l .1))
 
   -- what a walk has answered, where the plan has nothing at fault

@@ -1,4 +1,4 @@
--- Which writes go the shorter way, and which are known to leave the card but for its pixel mask. Nothing here has to be believed: both ways keep the contract of any write.
+-- Which writes go the shorter way, and which are known to leave the card but for its pixel mask. Nothing here has to be believed: every way keeps the contract of any write.
 use mathlib.Core.Bool.{Bool, true, cond, not, _&&_}
 use Prim.Native.Nat.{ℕ, _-_, _^_}
 use lib.Dec.{eqb}

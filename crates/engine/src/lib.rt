@@ -1,8 +1,9 @@
 // The engine: one write at a time, with the card's state and a lent video memory.
 // What a write means stands in the crate `rules`; what is promised here stands in specs/.
 ghost use mathlib.Core.Path.{_≡_};
-ghost use mathlib.Core.Bool.{true, false};
+ghost use mathlib.Core.Bool.{true, false, not};
 ghost use Prim.Native.Nat.{_%_};
+ghost use lib.Dec.{eqb};
 ghost use lib.ListN.{length};
 ghost use Rattle.raster.specs.Pixel.{bit};
 ghost use Rattle.span.specs.Fragments.{counted};
@@ -11,9 +12,7 @@ ghost use Rattle.rules.specs.Lines.{walks};
 ghost use Rattle.plan.specs.Plan.{planOf, judged};
 ghost use Rattle.engine.specs.Contract.{Written};
 ghost use Rattle.engine.specs.Text.{isText, keeps};
-ghost use Rattle.engine.specs.Walks.{walkedOn};
 use card::Card;
-use card::Line;
 use card::ONES;
 use card::REGISTERS;
 use card::Write;
@@ -52,7 +51,7 @@ fn plan_of(card: Card, w: Write) -> Plan
     }
 }
 
-// ---- The three ways of a write that has nothing at fault, under one contract.
+// ---- The ways of a write whose plan has nothing at fault, under one contract.
 
 // Any write but a line or a continue: the effect and the drawing of its plan.
 fn by_plan(p: Plan, card: Card, w: Write, vram: &mut [u8]) -> Answer
@@ -114,28 +113,16 @@ fn is_walk(card: Card, w: Write) -> bool
     modes::is_line(modes::mode_of(card.registers.mode))
 }
 
-// The card that an accepted one leaves. A line, which is a frame write, uses a one-shot pixel mask up; a continue, a register write, does not.
-fn moved(card: Card, w: Write, line: Line) -> Card
-    ensures { λ r. ⌜ r ≡ walkedOn card w line ⌝ }
-{
-    if w.space == REGISTERS {
-        let mut next = card;
-        next.line = line;
-        return next;
-    }
-    let mut used = effects::mask_used(card);
-    used.line = line;
-    used
-}
-
-// A line or a continue (Ask 5): the walk, which may still be refused.
-fn by_walk(card: Card, w: Write, vram: &mut [u8]) -> Answer
-    requires { ⌜ (walks card w ≡ true) × (judged (planOf card w) w (length (now vram)) ≡ 0) ⌝ }
+// A line (Ask 5): its walk, which may still be refused. As every accepted frame write it uses a one-shot pixel mask up.
+// That `walks::draw` has two callers keeps it out of this function, whose other writes would pay for it (docs/changes/ask-05.md).
+fn by_line(card: Card, w: Write, vram: &mut [u8]) -> Answer
+    requires { ⌜ (walks card w ≡ true) × (eqb (w .space) 1 ≡ false) × (judged (planOf card w) w (length (now vram)) ≡ 0) ⌝ }
     ensures { λ r. ⌜ Written card w (now (vram .entry)) r (now (vram .exit)) ⌝ }
 {
     let walk = walks::draw(card, w, vram);
     let refused = walk.number;
     let tally = walk.tally;
+    let line = walk.line;
     if refused != 0 {
         return Answer {
             number: refused,
@@ -143,7 +130,33 @@ fn by_walk(card: Card, w: Write, vram: &mut [u8]) -> Answer
             card,
         };
     }
-    let next = moved(card, w, walk.line);
+    let mut used = effects::mask_used(card);
+    used.line = line;
+    Answer {
+        number: 0,
+        tally,
+        card: used,
+    }
+}
+
+// A continue: the same, but it is a register write, and does not.
+fn by_continue(card: Card, w: Write, vram: &mut [u8]) -> Answer
+    requires { ⌜ (walks card w ≡ true) × (eqb (w .space) 1 ≡ true) × (judged (planOf card w) w (length (now vram)) ≡ 0) ⌝ }
+    ensures { λ r. ⌜ Written card w (now (vram .entry)) r (now (vram .exit)) ⌝ }
+{
+    let walk = walks::draw(card, w, vram);
+    let refused = walk.number;
+    let tally = walk.tally;
+    let line = walk.line;
+    if refused != 0 {
+        return Answer {
+            number: refused,
+            tally,
+            card,
+        };
+    }
+    let mut next = card;
+    next.line = line;
     Answer {
         number: 0,
         tally,
@@ -169,6 +182,14 @@ fn is_text(card: Card, w: Write) -> bool
 
 // ---- One write.
 
+// The answer of a walk, which keeps the card where it was refused.
+fn of_walk(answer: Answer) -> Told
+    ensures { λ r. ⌜ (r .answer ≡ answer) × (r .kept ≡ not (eqb (answer .number) 0)) ⌝ }
+{
+    let kept = answer.number != 0;
+    Told { answer, kept }
+}
+
 // A refused write answers its number with no pixel counted or changed, and leaves the card and every byte of VRAM. Beside the answer it says what a host need not store.
 pub fn tell(card: Card, w: Write, vram: &mut [u8]) -> Told
     ensures { λ r. ⌜ Written card w (now (vram .entry)) (r .answer) (now (vram .exit))
@@ -190,9 +211,12 @@ pub fn tell(card: Card, w: Write, vram: &mut [u8]) -> Told
         return Told { answer, kept: true };
     }
     if is_walk(card, w) {
-        let answer = by_walk(card, w, vram);
-        let kept = answer.number != 0;
-        return Told { answer, kept };
+        if w.space == REGISTERS {
+            let answer = by_continue(card, w, vram);
+            return of_walk(answer);
+        }
+        let answer = by_line(card, w, vram);
+        return of_walk(answer);
     }
     let answer = by_plan(p, card, w, vram);
     Told {

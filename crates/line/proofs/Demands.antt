@@ -114,7 +114,7 @@ pub held-from-reset : (planes : ℕ) (rest : List (List ℕ)) (v : List ℕ) (i 
 unfolding resetCard
 held-from-reset planes rest v i k h l e = held-planes rest (fresh (resetCard planes) v) .planes i k h l e
 
--- ---- Demand 1: every call gets one of the numbers 0 to 10.
+-- ---- Demand 1: every call gets a number, at most 13.
 
 abbrev Answered : Standing → Type 0
 Answered s = s .reader .number ≤ 13

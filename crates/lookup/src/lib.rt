@@ -35,7 +35,7 @@ pub fn find(offset: u32) -> Row
         0x0048 => listed(
             offset,
             Register::Bresenham3,
-            ONES - ERROR_UNIT + 16,
+            ONES - ERROR_UNIT + 16, // bits 31:15 and 3:0
             0,
             true,
         ),

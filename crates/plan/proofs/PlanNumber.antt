@@ -20,7 +20,7 @@ use Rattle.rules.specs.declared.Mode.the-variants.{Simple, OpaqueStipple, Trans
 use Rattle.plan.specs.Plan.{frameFaults, registerFaults, framePlan, planOf, judged, judgedBy, walkNumber}
 use Rattle.plan.specs.declared.Faults.{Faults}
 use Rattle.plan.specs.declared.Plan.{Plan}
-use Rattle.rules.proofs.Outcome.{accepted-passed}
+use Rattle.rules.proofs.Outcome.{accepted-passed, no-continue, some-length, walks-continue, walks-line}
 use Rattle.rules.proofs.Tests.{or-false}
 use Rattle.plan.proofs.Plans.{plan, planned-draws, frame-plan, register-plan}
 
@@ -61,18 +61,10 @@ module _ (c : Card) (w : Write) where
 
   -- a write that is no line and no continue: its number is that of the plan
   module _ (still : walks c w ≡ false) where
-    no-continue : names w Continue ≡ false
-    unfolding walks
-    no-continue = go (eqb (w .space) 1) still
-      where
-        go : (b : Bool) → cond b (registerOf w is Continue) (isLine (modeOf (c .registers .mode))) ≡ false → b && registerOf w is Continue ≡ false
-        go true e = e
-        go false e = refl
-
     still-number : (n : ℕ) → judged (planOf c w) w n ≡ refusal c w n
     unfolding judgedBy refusal outside wildWalk noLine
     still-number n =
-        ap₂ (λ (f : Faults) (past : Bool). judgedBy f past w n) planned-faults (planned-draws c w still .0 n) ∙ simp (still, no-continue)
+        ap₂ (λ (f : Faults) (past : Bool). judgedBy f past w n) planned-faults (planned-draws c w still .0 n) ∙ simp (still, no-continue c w still)
 
     module _ (v : List ℕ) (ok : refusal c w (length v) ≡ 0) where
       -- and where it is accepted, its span lies inside VRAM
@@ -87,13 +79,6 @@ module _ (c : Card) (w : Write) where
   module _ (goes : walks c w ≡ true) where
     abbrev Walking : Type 0
     Walking = (planOf c w .first + planOf c w .width ≡ 0) × (unloaded c w ≡ false) × (noLine c w ≡ eqb (visitCount c w) 0)
-
-    some-visits : (b : ℕ) → eqb (lineLength b) 0 ≡ false
-    some-visits b = go (ℕ-discrete (b % 16) 0)
-      where
-        go : Dec (b % 16 ≡ 0) → eqb (lineLength b) 0 ≡ false
-        go (yes e) = rw (eq-eqb _ _ e)
-        go (no e) = rw (ne-eqb _ _ e) (ne-eqb _ _ e)
 
     kept-or-none : (b : Bool) → not b ≡ eqb (cond b 16 0) 0
     kept-or-none true = refl
@@ -119,16 +104,16 @@ module _ (c : Card) (w : Write) where
         go : Dec (w .space ≡ 1) → Walking
         go (yes h) =
             let s = eq-eqb (w .space) 1 h in
-            let g : code (registerOf w) ≡ 10 = eqb-true (code (registerOf w)) 10 (rw s at goes) in (
+            let g = walks-continue c w goes h in (
               ap (λ (p : Plan). p .first + p .width) (register-plan c w h) ∙ rw g,
               rw (s, g),
               rw (s, g) (kept-or-none (isSet (c .line .kept))),
             )
         go (no h) =
             let s = ne-eqb (w .space) 1 h in (
-              ap (λ (p : Plan). p .first + p .width) (frame-plan c w h) ∙ line (modeOf (c .registers .mode)) (rw s at goes),
+              ap (λ (p : Plan). p .first + p .width) (frame-plan c w h) ∙ line (modeOf (c .registers .mode)) (walks-line c w goes h),
               rw s,
-              rw s (sym (some-visits (c .registers .bresenham3))),
+              rw s (sym (ne-eqb (lineLength (c .registers .bresenham3)) 0 (λ e. omega (arith, some-length (c .registers .bresenham3))))),
             )
 
     -- what is at fault is told first, then the walk is judged

@@ -48,6 +48,7 @@ pub fn plan(card: Card, w: Write) -> Plan
         Register::Continue => {
             let m = modes::mode_of(card.registers.mode);
             faults.mode = or(faults.mode, !modes::is_line(m));
+            // its walk is gone apart (crate `walks`)
             storing(faults, op, register, value)
         }
         Register::CopySource => {

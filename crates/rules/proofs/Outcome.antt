@@ -1,22 +1,25 @@
 -- What an accepted write has passed, and what the definitions then say; that of several numbers the lowest is returned; and what a refused write
 -- leaves. Assumes nothing.
 use mathlib.Core.Path.{_≡_, refl}
-use mathlib.Core.Bool.{Bool, true, false, _&&_, false≢true}
+use mathlib.Core.Bool.{Bool, true, false, cond, _&&_, false≢true}
 use mathlib.Core.List.{List, [], _∷_, map}
 use mathlib.Core.Logic.{_⊎_, inl, inr}
-use Prim.Native.Nat.{ℕ, zero, suc, _≤_, _<_}
+use Prim.Native.Nat.{ℕ, zero, suc, _%_, _≤_, _<_}
+use native.Mathlib.Decide.{ℕ-discrete}
 use native.Mathlib.Omega.{arith}
-use lib.Dec.{T, leb}
+use lib.Dec.{T, eqb, leb}
 use lib.ListN.{length, getD}
-use borrow.Author.Tests.{eq-eqb, ne-eqb, leb-true, ltb-false}
+use borrow.Author.Tests.{eq-eqb, ne-eqb, eqb-true, leb-true, ltb-false}
 use Rattle.raster.proofs.Below.{left, right, is-true}
 use Rattle.span.specs.Layers.{drawnAll, changedAll, summed}
 use Rattle.span.specs.Spans.{spanned, enabledIn}
+use Rattle.card.specs.Registers.{code, _is_}
 use Rattle.card.specs.declared.Card.{Card}
 use Rattle.card.specs.declared.Write.{Write}
-use Rattle.rules.specs.Modes.{effective}
-use Rattle.rules.specs.Lines.{spansOf}
-use Rattle.rules.specs.Refusal.{badSpace, badRaster, rows, firstHolding, refusal}
+use Rattle.card.specs.declared.Register.the-variants.{Continue}
+use Rattle.rules.specs.Modes.{modeOf, isLine, registerOf, effective}
+use Rattle.rules.specs.Lines.{walks, lineLength, spansOf}
+use Rattle.rules.specs.Refusal.{names, badSpace, badRaster, rows, firstHolding, refusal}
 use Rattle.rules.specs.Writes.{count, layers, operation, picture, changed, afterFrame, afterRegister, next}
 use Rattle.rules.proofs.Tests.{neither}
 
@@ -90,6 +93,33 @@ accepted-raster c w n e =
 pub accepted-space : (c : Card) (w : Write) (n : ℕ) → refusal c w n ≡ 0 → w .space ≤ 1
 unfolding badSpace
 accepted-space c w n e = ltb-false 1 (w .space) (neither _ _ (accepted-passed c w n e 1) .0)
+
+-- a line has a visit
+pub some-length : (b : ℕ) → 0 < lineLength b
+some-length b = go (ℕ-discrete (b % 16) 0)
+  where
+    go : Dec (b % 16 ≡ 0) → 0 < lineLength b
+    go (yes e) = rw (eq-eqb _ _ e) (omega arith)
+    go (no e) = rw (ne-eqb _ _ e) (omega arith)
+
+-- what walks is a continue, or a frame write in a line mode
+module _ (c : Card) (w : Write) (goes : walks c w ≡ true) where
+  pub walks-continue : w .space ≡ 1 → code (registerOf w) ≡ code Continue
+  unfolding walks
+  walks-continue h = eqb-true (code (registerOf w)) (code Continue) (rw (eq-eqb (w .space) 1 h) at goes)
+
+  pub walks-line : (w .space ≡ 1 → ⊥) → isLine (modeOf (c .registers .mode)) ≡ true
+  unfolding walks
+  walks-line h = rw (ne-eqb (w .space) 1 h) at goes
+
+-- what does not walk is no continue
+pub no-continue : (c : Card) (w : Write) → walks c w ≡ false → names w Continue ≡ false
+unfolding walks
+no-continue c w still = go (eqb (w .space) 1) still
+  where
+    go : (b : Bool) → cond b (registerOf w is Continue) (isLine (modeOf (c .registers .mode))) ≡ false → b && registerOf w is Continue ≡ false
+    go true e = e
+    go false e = refl
 
 module _ (c : Card) (w : Write) where
   module _ (v : List ℕ) (e : refusal c w (length v) ≡ 0) where

@@ -83,7 +83,7 @@ wild a b (s ∷ ss) = not (inSixteenBits (s .error)) || (not (inSixteenBits (ste
 
 -- ---- The walk of a write.
 
--- a frame write in a line mode, and a continue, walk
+-- a frame write in a line mode, and a continue, walk; a write of space 2 or more is refused by 2 before that counts
 unfoldable pub walks : Card → Write → Bool
 walks c w = cond (eqb (w .space) 1) (registerOf w is Continue) (isLine (modeOf (c .registers .mode)))
 

@@ -186,7 +186,7 @@ frameSpan OpaqueLine c w = nothing
 frameSpan TransparentLine c w = nothing
 frameSpan Unlisted c w = nothing
 
--- the spans of a register write: the 64-byte copy's, whose data is the address; every other has none
+-- the spans of a register write: the 64-byte copy's, whose data is the address; every other has none here. A continue's stand in Lines
 abbrev pub registerSpans : Register → Card → Write → List Span
 registerSpans g c w =
     cond (g is CopySource) (span (w .«data») 64 (λ i. false) (λ i. 0) ∷ [])

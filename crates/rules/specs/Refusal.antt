@@ -68,7 +68,7 @@ outside c w n = cond (walks c w) (strays n (visitsOf c w)) (past n (spansOf c w)
 unfoldable pub unloaded : Card → Write → Bool
 unloaded c w = names w CopyDestination && not (isSet (c .copier .loaded))
 
--- 12: an error of the walk lies outside signed 16 bits
+-- 12: an error of the walk lies outside signed 16 bits, at the start or after any step, the last too
 unfoldable pub wildWalk : Card → Write → Bool
 wildWalk c w = walks c w && wild (c .registers .bresenham1) (c .registers .bresenham2) (visitsOf c w)
 

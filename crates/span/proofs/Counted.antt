@@ -13,6 +13,11 @@ pub counted-step : (n : ℕ) (f : ℕ → Bool) → counted (n + 1) f ≡ counte
 unfolding counted
 counted-step n f = rw add-one
 
+-- the first alone
+pub counted-one : (f : ℕ → Bool) → counted 1 f ≡ value (f 0)
+unfolding counted
+counted-one f = omega arith
+
 pub counted-same : (n : ℕ) {f g : ℕ → Bool} → ((j : ℕ) → j < n → f j ≡ g j) → counted n f ≡ counted n g
 unfolding counted
 counted-same zero e = refl

@@ -5,7 +5,7 @@ use mathlib.Core.List.{List, [], _∷_, _++_, append-nil}
 use mathlib.Core.Logic.{_⊎_, inl, inr}
 use Prim.Native.Nat.{ℕ, _+_, _-_, _%_, _<_, _≤_, min}
 use native.Mathlib.Nat.{add-zero}
-use native.Mathlib.Decide.{decLt}
+use native.Mathlib.Decide.{decLt, ℕ-discrete}
 use native.Mathlib.Omega.{arith}
 use lib.ListN.{length, getD, take, drop, length-take, length-drop, drop-of-length-le}
 use lib.Seq.{take-all}
@@ -38,6 +38,15 @@ module _ (mask : ℕ → ℕ) (s : Span) where
   pub spanned-past : (p : ℕ) → s .first + s .width ≤ p → spanned mask s p ≡ stays
   unfolding spanned
   spanned-past p h = from-past (s .first) _ (omega arith) ∙ before-past (s .width) (pixel mask s) (omega arith)
+
+  -- a single pixel leaves every other address
+  pub spanned-elsewhere : s .width ≡ 1 → (p : ℕ) → (p ≡ s .first → ⊥) → spanned mask s p ≡ stays
+  spanned-elsewhere one p h = go (decLt p (s .first)) (ℕ-discrete p (s .first))
+    where
+      go : Dec (p < s .first) → Dec (p ≡ s .first) → spanned mask s p ≡ stays
+      go (yes l) d = spanned-before p l
+      go (no l) (yes e) = absurd (h e)
+      go (no l) (no e) = spanned-past p (omega arith)
 
   -- where its pixel is not enabled, if one lies there, it does nothing
   pub spanned-disabled : (p : ℕ) → (p - s .first < s .width → s .on (p - s .first) ≡ false) → spanned mask s p ≡ stays

@@ -85,7 +85,7 @@ ends-so z (applied e p) = one-more (ends-so refl p)
 
 -- what holds of every run
 pub record Outcome (part : List ℕ) (b : ℕ) (c : Card) (v : List ℕ) (s : State) : Type 0 where
-  -- demand 1: one of the numbers 0 to 10
+  -- demand 1: at most 13
   pub number : s .number ≤ 13
   -- never above the budget, the part or the largest number
   pub within-budget : s .applied ≤ b

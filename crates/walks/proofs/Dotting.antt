@@ -1,23 +1,23 @@
 -- A span of a single pixel, drawn and compared, and that of a visit. What is drawn is assumed to lie inside.
 use mathlib.Core.Path.{_≡_, refl, ap, sym, _∙_}
 use mathlib.Core.Bool.{Bool, true, false, cond, not, _&&_, _||_}
-use mathlib.Core.List.{List, [], _∷_, map}
+use mathlib.Core.List.{List, _∷_, map}
 use Prim.Native.Nat.{ℕ, suc, _+_, _-_, _%_, _≤_, _<_, min}
-use native.Mathlib.Decide.{decLt, ℕ-discrete}
+use native.Mathlib.Decide.{ℕ-discrete}
 use native.Mathlib.Omega.{arith}
 use lib.Dec.{eqb}
 use lib.ListN.{length, getD, set, length-set}
 use borrow.Author.Tests.{eq-eqb, ne-eqb}
 use lib.Seq.{getD-set-same, getD-set-other}
 use Rattle.raster.specs.Pixel.{bit, value, made}
-use Rattle.span.specs.Fragments.{Fragment, stays, paint, painted, alters, drawn, counted, differing, byte}
+use Rattle.span.specs.Fragments.{Fragment, paint, painted, alters, drawn, counted, differing, byte}
 use Rattle.span.specs.Layers.{drawnAll, changedAll, summed}
 use Rattle.span.specs.Spans.{Span, pixel, spanned, enabledIn}
 use Rattle.span.specs.declared.Tally.{Tally}
 use Rattle.span.proofs.Changed.{differing-none, differing-run, differing-within}
-use Rattle.span.proofs.Counted.{counted-le}
+use Rattle.span.proofs.Counted.{counted-one, counted-le}
 use Rattle.span.proofs.Drawn.{drawn-is, drawn-none}
-use Rattle.span.proofs.Spans.{spanned-in, spanned-before, spanned-past, spanned-off}
+use Rattle.span.proofs.Spans.{spanned-in, spanned-elsewhere, spanned-off}
 use Rattle.card.specs.declared.Card.{Card}
 use Rattle.card.specs.declared.Write.{Write}
 use Rattle.rules.specs.Modes.{foreground, background, effective}
@@ -35,18 +35,7 @@ module _ (op : ℕ) (mask : ℕ → ℕ) (s : Span) (one : s .width ≡ 1) (v : 
       go i h (yes e) =
           rw e (getD-set-same v (s .first) _ 0 inside
           ∙ sym (ap (λ (f : Fragment). painted op f (getD v (s .first) 0)) (spanned-in mask s (s .first) 0 (omega arith) (omega arith))))
-      go i h (no e) = getD-set-other v (s .first) i _ 0 e ∙ sym (ap (λ (f : Fragment). painted op f (getD v i 0)) (off i e))
-        where
-          off : (i : ℕ) → (i ≡ s .first → ⊥) → spanned mask s i ≡ stays
-          off i e = aside (decLt i (s .first))
-            where
-              aside : Dec (i < s .first) → spanned mask s i ≡ stays
-              aside (yes h) = spanned-before mask s i h
-              aside (no h) = spanned-past mask s i (omega arith)
-
-  one-only : (f : ℕ → Bool) → counted 1 f ≡ value (f 0)
-  unfolding counted
-  one-only f = omega arith
+      go i h (no e) = getD-set-other v (s .first) i _ 0 e ∙ sym (ap (λ (f : Fragment). painted op f (getD v i 0)) (spanned-elsewhere mask s one i e))
 
   pub dot-changes : differing v (drawn op (spanned mask s) v) ≡ value (alters op (pixel mask s 0) (getD v (s .first) 0))
   unfolding spanned counted
@@ -55,7 +44,7 @@ module _ (op : ℕ) (mask : ℕ → ℕ) (s : Span) (one : s .width ≡ 1) (v : 
       let z : s .first + 0 ≡ s .first = omega arith in
       differing-run op (s .first) (s .width) (pixel mask s) v
       ∙ (ap (λ (n : ℕ). counted n (λ j. alters op (pixel mask s j) (getD v (s .first + j) 0))) k
-      ∙ (one-only (λ j. alters op (pixel mask s j) (getD v (s .first + j) 0)) ∙ ap (λ (a : ℕ). value (alters op (pixel mask s 0) (getD v a 0))) z))
+      ∙ (counted-one (λ j. alters op (pixel mask s j) (getD v (s .first + j) 0)) ∙ ap (λ (a : ℕ). value (alters op (pixel mask s 0) (getD v a 0))) z))
 
 -- ---- A visit's.
 
@@ -63,10 +52,6 @@ module _ (op : ℕ) (mask : ℕ → ℕ) (s : Span) (one : s .width ≡ 1) (v : 
 pub chosen : (b : Bool) (x y k : ℕ) → byte (cond b x y) k ≡ cond b (byte x k) (byte y k)
 chosen true x y k = refl
 chosen false x y k = refl
-
-one-enabled : (b : Bool) → counted 1 (λ j. b) ≡ value b
-unfolding counted
-one-enabled b = omega arith
 
 module _ (c : Card) (w : Write) (opaque shown : Bool) (i p : ℕ) (v : List ℕ) where
   abbrev on : Bool
@@ -88,7 +73,7 @@ module _ (c : Card) (w : Write) (opaque shown : Bool) (i p : ℕ) (v : List ℕ)
       in
       record {
         shows = shown;
-        counts = sym (one-enabled on ∙ ap value e);
+        counts = sym (counted-one (λ j. on) ∙ ap value e);
         changes = n ∙ (ap (λ (x : Fragment). value (alters op x (getD v p 0))) f ∙ (sym (dot-changes op (effective c) s refl v inside) ∙ sym (ap (differing v) shown)));
       }
 
@@ -97,7 +82,7 @@ module _ (c : Card) (w : Write) (opaque shown : Bool) (i p : ℕ) (v : List ℕ)
   dot-left e =
       record {
         shows = sym (drawn-none op _ v (λ a _. spanned-off (effective c) (dot opaque shown c w i p) (λ j h. e) a));
-        counts = sym (one-enabled on ∙ ap value e);
+        counts = sym (counted-one (λ j. on) ∙ ap value e);
         changes = sym (differing-none v);
       }
 

@@ -5,6 +5,7 @@ ghost use Prim.Native.Nat.{_^_, _≤_};
 ghost use Rattle.rules.specs.Lines.{within, inSixteenBits, stepped, visits as visitsFrom, walked, strays, wild};
 ghost use Rattle.walks.specs.Reach.{Near};
 use crate::wholes;
+use crate::wholes::HALF_OF_16;
 use rules::Visit;
 use rules::Whole;
 
@@ -14,9 +15,6 @@ pub(crate) struct Judged {
     pub wild: bool,
     pub end: Visit,
 }
-
-// Half of all numbers of 16 bits.
-const HALF: u64 = 32768;
 
 // A place outside n bytes.
 fn outside(x: Whole, n: usize) -> bool
@@ -34,10 +32,10 @@ fn too_far(x: Whole) -> bool
     requires { ⌜ (x .more ≤ 2 ^ 40) × (x .less ≤ 2 ^ 40) ⌝ }
     ensures { λ r. ⌜ r ≡ not (inSixteenBits x) ⌝ }
 {
-    if x.more + HALF < x.less {
+    if x.more + HALF_OF_16 < x.less {
         return true;
     }
-    x.less + HALF <= x.more
+    x.less + HALF_OF_16 <= x.more
 }
 
 // After each visit. The error is tested as it came to the visit.

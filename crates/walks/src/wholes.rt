@@ -12,8 +12,8 @@ use rules::Whole;
 // One more than the largest word.
 const WORD: u64 = 4294967296;
 
-// Half of all numbers of 16, of 17 and of 32 bits: from there on a field is below 0.
-const HALF_OF_16: u64 = 32768;
+// Half of all numbers of 16, of 17 (which `ERROR_UNIT` leaves of a word) and of 32 bits: from there on a field is below 0.
+pub(crate) const HALF_OF_16: u64 = 32768;
 
 const HALF_OF_17: u64 = 65536;
 

@@ -1,11 +1,10 @@
 -- `walks::dots::draw` meets its contract. The loop's invariant: what the rest draws on the picture now is what all draw on the first. Assumes nothing.
-use mathlib.Core.Path.{_≡_, refl, ap, sym, _∙_}
+use mathlib.Core.Path.{_≡_, refl, ap, _∙_}
 use mathlib.Core.Bool.{false}
 use Prim.Native.Nat.{_+_, _*_, _/_, _%_, _^_, _≤_, _<_}
 use native.Mathlib.Omega.{arith}
 use lib.Dec.{eqb}
 use lib.ListN.{length}
-use denote.Ref.{now}
 use Rattle.span.specs.Layers.{drawnAll, changedAll, summed}
 use Rattle.span.specs.Spans.{enabledIn}
 use Rattle.raster.specs.Pixel.{bit}

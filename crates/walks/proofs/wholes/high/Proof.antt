@@ -1,5 +1,5 @@
 -- `walks::wholes::high` meets its contract. Assumes nothing.
-use Prim.Native.Nat.{_/_, _%_}
+use Prim.Native.Nat.{_/_}
 use native.Mathlib.Omega.{arith}
 use Rattle.walks.proofs.Fields.{signed-is}
 use borrow.Author.Needs.{needs}

@@ -1,5 +1,4 @@
 -- `walks::wholes::of_word` meets its contract. Assumes nothing.
-use Prim.Native.Nat.{_/_, _%_}
 use native.Mathlib.Omega.{arith}
 use Rattle.walks.proofs.Fields.{signed-is}
 use borrow.Author.Needs.{needs}
