@@ -8,16 +8,15 @@ use native.Mathlib.Decide.{decLt, ℕ-discrete}
 use native.Mathlib.Omega.{arith}
 use lib.Dec.{eqb, leb, ltb}
 use lib.ListN.{length, getD}
-use borrow.Author.Tests.{eq-eqb, ne-eqb, eqb-true, lt-ltb, le-ltb, leb-true, ltb-true, ltb-false, not-false}
+use borrow.Author.Tests.{eq-eqb, ne-eqb, lt-ltb, le-ltb, leb-true, ltb-true, ltb-false, not-false}
 use Rattle.span.specs.Layers.{Each}
 use Rattle.span.specs.Spans.{Span}
-use Rattle.card.specs.Registers.{code, isSet}
+use Rattle.card.specs.Registers.{isSet}
 use Rattle.card.specs.Access.{stores}
 use Rattle.card.specs.declared.Card.{Card}
 use Rattle.card.specs.declared.Write.{Write}
 use Rattle.card.specs.declared.Register.the-variants.{Continue}
-use Rattle.rules.specs.Modes.{registerOf}
-use Rattle.rules.specs.Lines.{plus, minus, signed, word, within, inSixteenBits, belowZero, stepped, visits, walked, strays, wild, walks, start, visitCount, visitsOf, lineLeft, addressOf, none, dot, dots, lineLength, spansOf}
+use Rattle.rules.specs.Lines.{plus, minus, signed, word, within, inSixteenBits, belowZero, stepped, visits, walked, strays, wild, walks, start, visitCount, visitsOf, lineLeft, addressOf, none, dot, dots, spansOf}
 use Rattle.rules.specs.Refusal.{names, badLength, largestVram, past, outside, wildWalk, noLine, refusal}
 use Rattle.rules.specs.Writes.{picture, afterFrame, afterRegister, next}
 use Rattle.rules.specs.declared.Visit.{Visit}

@@ -11,7 +11,7 @@ use borrow.Author.Tests.{eq-eqb, ne-eqb, eqb-true}
 use Rattle.raster.proofs.Below.{left, right, is-true}
 use Rattle.span.specs.Layers.{drawnAll, changedAll, summed}
 use Rattle.span.specs.Spans.{spanned, enabledIn}
-use Rattle.card.specs.Registers.{code, table, rowIn, rowAt, _is_}
+use Rattle.card.specs.Registers.{table, rowIn, rowAt, _is_}
 use Rattle.card.specs.Access.{stores}
 use Rattle.card.specs.declared.Card.{Card}
 use Rattle.card.specs.declared.Line.{Line}

@@ -1,20 +1,20 @@
 -- The number of a write is that of its plan and, of a line or a continue, that of its walk. Assumes nothing.
 use mathlib.Core.Path.{_≡_, refl, ap, ap₂, sym, _∙_, subst}
-use mathlib.Core.Bool.{Bool, true, false, cond, not, _&&_, false≢true}
+use mathlib.Core.Bool.{Bool, true, false, cond, not, false≢true}
 use mathlib.Core.List.{List, [], _∷_}
-use Prim.Native.Nat.{ℕ, _+_, _%_, _≤_}
+use Prim.Native.Nat.{ℕ, _+_, _≤_}
 use native.Mathlib.Decide.{ℕ-discrete}
 use native.Mathlib.Omega.{arith}
 use lib.Dec.{eqb}
 use lib.ListN.{length}
-use borrow.Author.Tests.{eq-eqb, ne-eqb, eqb-true, ltb-false, le-ltb}
-use Rattle.card.specs.Registers.{code, isSet, _is_}
+use borrow.Author.Tests.{eq-eqb, ne-eqb, ltb-false, le-ltb}
+use Rattle.card.specs.Registers.{isSet, _is_}
 use Rattle.card.specs.declared.Card.{Card}
 use Rattle.card.specs.declared.Write.{Write}
-use Rattle.card.specs.declared.Register.the-variants.{Continue, CopySource, CopyDestination}
+use Rattle.card.specs.declared.Register.the-variants.{CopySource, CopyDestination}
 use Rattle.rules.specs.Modes.{modeOf, isLine, registerOf, frameSpan}
 use Rattle.rules.specs.Lines.{walks, strays, wild, visitCount, visitsOf, lineLength, spansOf}
-use Rattle.rules.specs.Refusal.{names, badLength, badSpace, badLanes, noRegister, badMode, badRaster, offBoundary, past, outside, unloaded, wildWalk, noLine, firstHolding, refusal}
+use Rattle.rules.specs.Refusal.{badLength, badSpace, badLanes, noRegister, badMode, badRaster, offBoundary, past, outside, unloaded, wildWalk, noLine, firstHolding, refusal}
 use Rattle.rules.specs.declared.Mode.{Mode}
 use Rattle.rules.specs.declared.Mode.the-variants.{Simple, OpaqueStipple, TransparentStipple, OpaqueFill, TransparentFill, BlockStipple, BlockFill, Copy, OpaqueLine, TransparentLine, Unlisted}
 use Rattle.plan.specs.Plan.{frameFaults, registerFaults, framePlan, planOf, judged, judgedBy, walkNumber}
