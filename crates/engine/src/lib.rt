@@ -114,7 +114,7 @@ fn is_walk(card: Card, w: Write) -> bool
 }
 
 // A line (Ask 5): its walk, which may still be refused. As every accepted frame write it uses a one-shot pixel mask up.
-// That `walks::draw` has two callers keeps it out of this function, whose other writes would pay for it (docs/changes/ask-05.md).
+// That `walks::draw` has two callers, this and `by_continue`, keeps it from being built into `tell`, where every other write would pay for it (docs/changes/ask-05.md).
 fn by_line(card: Card, w: Write, vram: &mut [u8]) -> Answer
     requires { ⌜ (walks card w ≡ true) × (eqb (w .space) 1 ≡ false) × (judged (planOf card w) w (length (now vram)) ≡ 0) ⌝ }
     ensures { λ r. ⌜ Written card w (now (vram .entry)) r (now (vram .exit)) ⌝ }

@@ -1,6 +1,6 @@
 // The mode register, decoded.
 ghost use mathlib.Core.Path.{_≡_};
-ghost use Rattle.rules.specs.Modes.{modeOf, unlisted, isLine, isOpaqueLine};
+ghost use Rattle.rules.specs.Modes.{modeOf, unlisted, isLine};
 use rules::Mode;
 
 // The mode of a whole register value.
@@ -60,25 +60,6 @@ pub fn is_line(m: Mode) -> bool
         Mode::Copy => false,
         Mode::OpaqueLine => true,
         Mode::TransparentLine => true,
-        Mode::Unlisted => false,
-    }
-}
-
-// The opaque one.
-pub fn is_opaque_line(m: Mode) -> bool
-    ensures { λ r. ⌜ r ≡ isOpaqueLine m ⌝ }
-{
-    match m {
-        Mode::Simple => false,
-        Mode::OpaqueStipple => false,
-        Mode::TransparentStipple => false,
-        Mode::OpaqueFill => false,
-        Mode::TransparentFill => false,
-        Mode::BlockStipple => false,
-        Mode::BlockFill => false,
-        Mode::Copy => false,
-        Mode::OpaqueLine => true,
-        Mode::TransparentLine => false,
         Mode::Unlisted => false,
     }
 }

@@ -5,17 +5,38 @@ ghost use Prim.Native.Nat.{_%_, _^_, _≤_, _<_};
 ghost use lib.ListN.{length, getD, set};
 ghost use Rattle.raster.specs.Pixel.{made, value};
 ghost use Rattle.span.specs.Fragments.{paint, alters};
+ghost use Rattle.rules.specs.Modes.{isOpaqueLine};
 ghost use Rattle.rules.specs.Lines.{visits as visitsFrom, strays, dot as dotAt};
 ghost use Rattle.walks.specs.Contract.{Dotted, Visited};
 ghost use Rattle.walks.specs.Reach.{Near};
 use crate::steps;
 use card::Card;
 use card::Write;
+use rules::Mode;
 use rules::Visit;
 use span::Tally;
 
 // The cap bit of the mode register, bit 15, as a number.
 const CAP: u32 = 0x8000;
+
+// Opaque line mode.
+fn is_opaque(m: Mode) -> bool
+    ensures { λ r. ⌜ r ≡ isOpaqueLine m ⌝ }
+{
+    match m {
+        Mode::Simple => false,
+        Mode::OpaqueStipple => false,
+        Mode::TransparentStipple => false,
+        Mode::OpaqueFill => false,
+        Mode::TransparentFill => false,
+        Mode::BlockStipple => false,
+        Mode::BlockFill => false,
+        Mode::Copy => false,
+        Mode::OpaqueLine => true,
+        Mode::TransparentLine => false,
+        Mode::Unlisted => false,
+    }
+}
 
 // One pixel drawn: 1 where it is another afterwards, else 0.
 fn dot(vram: &mut [u8], p: usize, op: u8, mask: u8, source: u8) -> u32
@@ -87,7 +108,7 @@ pub(crate) fn draw(card: Card, w: Write, visits: u32, s: Visit, vram: &mut [u8])
     let a = card.registers.bresenham1;
     let b = card.registers.bresenham2;
     let mode = card.registers.mode;
-    let opaque = modes::is_opaque_line(modes::mode_of(mode));
+    let opaque = is_opaque(modes::mode_of(mode));
     let cap = mode / CAP % 2 == 1;
     let mut at = s;
     let mut enabled = 0;

@@ -35,8 +35,8 @@ abbrev μ-loop : tie.MeasureT-loop
 mode-of-requires : tie.Need-mode-of-requires Inv-loop μ-loop
 mode-of-requires c κs = search needs
 
-is-opaque-line-requires : tie.Need-is-opaque-line-requires Inv-loop μ-loop
-is-opaque-line-requires c κs = search needs
+is-opaque-requires : tie.Need-is-opaque-requires Inv-loop μ-loop
+is-opaque-requires c κs = search needs
 
 loop-holds : tie.Need-loop-holds Inv-loop μ-loop
 loop-holds c = (omega arith, c .before .before .before .pre .1, omega arith, omega arith, nearer _ _ (c .before .before .before .args .s) (omega arith) (c .before .before .before .pre .0), refl, c .before .before .before .pre .2, refl, omega arith, omega arith)
@@ -87,7 +87,7 @@ loop-again c =
     let more : 0 < l .left = omega arith in
     let d = c .before .before .before .before .before .visit .ensures in
     let es = c .before .before .before .before .before .before .before .or .ensures in
-    let o = c .before .before .before .before .before .before .before .before .before .before .before .is-opaque-line .result in
+    let o = c .before .before .before .before .before .before .before .before .before .before .before .is-opaque .result in
     let k = eqb (a .card .registers .mode / 32768 % 2) 1 in
     let x = a .card .registers .bresenham1 in
     let y = a .card .registers .bresenham2 in
@@ -112,8 +112,8 @@ unfolding visitsFrom dots drawnAll changedAll bit
 returns c =
     let l = c .before .loop in
     let a = c .before .before .before .before .before .args in
-    let o : c .before .before .is-opaque-line .result ≡ isOpaqueLine (modeOf (a .card .registers .mode))
-    = c .before .before .is-opaque-line .ensures ∙ ap isOpaqueLine (c .before .before .before .mode-of .ensures) in
+    let o : c .before .before .is-opaque .result ≡ isOpaqueLine (modeOf (a .card .registers .mode))
+    = c .before .before .is-opaque .ensures ∙ ap isOpaqueLine (c .before .before .before .mode-of .ensures) in
     let done : l .left ≡ 0 = omega arith in
     let i = l .inv in
     record {
@@ -129,7 +129,7 @@ draw-spec =
     Inv-loop
     μ-loop
     mode-of-requires
-    is-opaque-line-requires
+    is-opaque-requires
     loop-holds
     sub-p
     or-requires
