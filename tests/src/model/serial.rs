@@ -1,5 +1,5 @@
-//! Ask 2, "Traces that arrive over a serial line". The reader keeps every byte it has heard, and judges all of them afresh at
-//! each new one.
+//! Ask 2, "Traces that arrive over a serial line". The reader keeps every byte it has heard. It judges the header once that is
+//! whole, each byte after it by its place alone, and all of them afresh at the end call.
 
 use super::refusal::bad_length;
 use super::trace::{check, entry, word, ENTRY, HEADER, MOST_ENTRIES};
@@ -66,12 +66,7 @@ impl Reader {
 
     /// The number that the newest byte gets.
     fn judge(&mut self, card: &mut Card, vram: &mut [u8]) -> u32 {
-        // "A bad header answers 10 at its sixteenth byte"
-        if self.heard.len() < HEADER {
-            return 0;
-        }
-        // "a bad pad byte at once"; "a byte past the total, answers 10"
-        if !begins_trace(&self.heard) {
+        if newest_is_wrong(&self.heard) {
             return 10;
         }
         let at = HEADER + ENTRY * self.entries as usize;
@@ -90,12 +85,26 @@ impl Reader {
     }
 }
 
-/// Whether a trace begins with these bytes, a header or more. If any does, they and zeros up to the header's total are one, as
-/// check lets an entry be all zeros. A total too long for any trace is cut, and check then refuses it.
-fn begins_trace(heard: &[u8]) -> bool {
+/// Whether the newest of these bytes answers 10. Those before it did not, so only what it can have changed is asked.
+fn newest_is_wrong(heard: &[u8]) -> bool {
+    // "A bad header answers 10 at its sixteenth byte"
+    if heard.len() <= HEADER {
+        return heard.len() == HEADER && !begins_trace(heard);
+    }
+    let newest = heard.len() - 1;
+    // "a byte past the total, answers 10"
+    let past = newest >= word(heard, 12) as usize;
+    // "a bad pad byte at once": an entry is space, lanes, two zero bytes, address, data.
+    let pad = matches!((newest - HEADER) % ENTRY, 2 | 3);
+    past || (pad && heard[newest] != 0)
+}
+
+/// Whether a trace begins with this header. If any does, it and zeros up to its total are one, as check lets an entry be all
+/// zeros. A total too long for any trace is cut, one shorter than the header is not met, and check then refuses it.
+fn begins_trace(header: &[u8]) -> bool {
     let longest = HEADER + ENTRY * MOST_ENTRIES as usize;
-    let total = (word(heard, 12) as usize).min(longest);
-    let mut bytes = vec![0; total.max(heard.len())];
-    bytes[..heard.len()].copy_from_slice(heard);
+    let total = word(header, 12) as usize;
+    let mut bytes = vec![0; total.clamp(HEADER, longest)];
+    bytes[..HEADER].copy_from_slice(header);
     check(&bytes).0 == 0
 }

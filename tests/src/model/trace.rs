@@ -1,13 +1,15 @@
-//! "Traces": starting, appending, checking and running them, as the scope paper says.
+//! "Traces": starting, appending, checking and running them, as the scope paper says, with the limit that Ask 6 gives.
 
 use super::refusal::{bad_form, bad_length};
 use super::{Card, Write};
 
 pub const HEADER: usize = 16;
 pub const ENTRY: usize = 12;
-pub const MOST_ENTRIES: u64 = 4096;
+/// Ask 6: "Raise the limit to 65,536 everywhere"
+pub const MOST_ENTRIES: u64 = 65_536;
 
-/// What a run gives back; `rest` is where the unread part begins in the part.
+/// What a run gives back; `rest` is where the unread part begins in the part. Ask 6: "the run's pixel total then never exceeds
+/// 134,217,728", so none of these wraps.
 #[derive(Clone, Copy, PartialEq, Eq, Debug)]
 pub struct Ran {
     pub number: u32,
@@ -107,7 +109,7 @@ fn is_trace(bytes: &[u8]) -> bool {
         && are_entries(&bytes[HEADER..])
 }
 
-/// "10 if it isn't whole entries, has a nonzero pad byte, or exceeds 4,096 entries"
+/// Document 01 with Ask 6's number: "10 if it isn't whole entries, has a nonzero pad byte, or exceeds 65,536 entries"
 fn are_entries(part: &[u8]) -> bool {
     part.len().is_multiple_of(ENTRY)
         && (part.len() / ENTRY) as u64 <= MOST_ENTRIES
