@@ -1,6 +1,6 @@
 // Whether bytes are a trace, and a part of them its entries. What that means stands in the crate `format`.
 ghost use mathlib.Core.Path.{_≡_};
-ghost use Rattle.format.specs.Traces.{wellFormed, goodHeader, isTrace, checkNumber, checkLength, checkPart};
+ghost use Rattle.format.specs.Traces.{wellFormed, goodHeader, fitsHeader, isTrace, checkNumber, checkLength, checkPart};
 use bounds::bad_length;
 use entries::word_at;
 use format::ENTRY;
@@ -54,14 +54,21 @@ pub fn good_header(b: &[u8]) -> bool
     word_at(b, 12) as usize == HEADER + ENTRY * entries
 }
 
-// The bytes are a trace: a header of 16 bytes, then the entries.
-pub fn is_trace(b: &[u8]) -> bool
-    ensures { λ r. ⌜ r ≡ isTrace (now (b .entry)) ⌝ }
+// And are as many as the header's total says.
+pub fn fits_header(b: &[u8]) -> bool
+    ensures { λ r. ⌜ r ≡ fitsHeader (now (b .entry)) ⌝ }
 {
     if !good_header(b) {
         return false;
     }
-    if b.len() != word_at(b, 12) as usize {
+    b.len() == word_at(b, 12) as usize
+}
+
+// The bytes are a trace: a header of 16 bytes, then the entries.
+pub fn is_trace(b: &[u8]) -> bool
+    ensures { λ r. ⌜ r ≡ isTrace (now (b .entry)) ⌝ }
+{
+    if !fits_header(b) {
         return false;
     }
     well_formed(&b[HEADER..])

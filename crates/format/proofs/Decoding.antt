@@ -6,17 +6,18 @@ use Prim.Native.Nat.{ℕ, zero, suc, _+_, _*_, _%_, _≤_}
 use native.Mathlib.Nat.{add-assoc}
 use native.Mathlib.Omega.{arith}
 use lib.Dec.{eqb, ltb}
-use lib.ListN.{length, drop}
+use lib.ListN.{length, drop, length-drop}
 use lib.Seq.{getD-drop}
 use borrow.Author.Tests.{eq-eqb, ltb-false}
 use Rattle.card.specs.declared.Write.{Write}
 use Rattle.rules.specs.Refusal.{badLength, largestVram}
 use Rattle.rules.proofs.Tests.{neither}
 use Rattle.format.specs.Bytes.{word, bytes}
-use Rattle.format.specs.Traces.{largest, Delivered, header, entry, entries, encoded, writeAt, writesAt, paddedAt, entryCount, writes, wellFormed, goodHeader, isTrace, trace, decoded}
+use Rattle.format.specs.Traces.{largest, Delivered, header, entry, entries, encoded, writeAt, writesAt, paddedAt, entryCount, writes, wellFormed, goodHeader, fitsHeader, isTrace, trace, decoded, decodedUpTo}
 use Rattle.format.proofs.Bytes.{word-bytes, word-drop}
 use Rattle.format.proofs.Padding.{by-padding}
-use Rattle.format.proofs.HeaderTests.{by-total, by-entries}
+use Rattle.format.proofs.HeaderTests.{by-total, by-length, by-entries}
+use Rattle.format.proofs.Tested.{headed, fitting}
 
 -- what is read at a of what is left after n is read at n + a
 pub writeAt-drop : (n : ℕ) (v : List ℕ) (a : ℕ) → writeAt (drop n v) a ≡ writeAt v (n + a)
@@ -32,6 +33,18 @@ pub paddedAt-drop : (n : ℕ) (v : List ℕ) (a k : ℕ) → paddedAt (drop n v)
 unfolding paddedAt
 paddedAt-drop n v a zero = refl
 paddedAt-drop n v a (suc k) = simp (getD-drop, paddedAt-drop n v (a + 12) k, add-assoc)
+
+-- bytes that fit their header are a trace where every pad byte is zero
+pub by-pads : (v : List ℕ) → fitsHeader v ≡ true → paddedAt v 16 (word v 0) ≡ isTrace v
+by-pads v f =
+    let (g, whole) = fitting v f in
+    let h = headed v g in
+    let size : length (drop 16 v) ≡ 12 * word v 0 = omega (arith, length-drop 16 v, whole, h .total) in
+    let count : entryCount (drop 16 v) ≡ word v 0 = omega (arith, size) in
+    sym (paddedAt-drop 16 v 0 (word v 0))
+    ∙ ap (paddedAt (drop 16 v) 0) (sym count)
+    ∙ by-padding (drop 16 v) (omega (arith, size)) (omega (arith, count, h .few))
+    ∙ by-entries v f
 
 -- an entry in front
 writeAt-entry : (w : Write) (rest : List ℕ) → Delivered w → writeAt (entry w ++ rest) 0 ≡ w
@@ -133,11 +146,11 @@ module _ (vram : ℕ) (ws : List Write) (good : badLength vram ≡ false) (few :
 
   pub encoded-trace : isTrace spelled ≡ true
   encoded-trace =
-      sym (by-entries spelled header-fits (sym total-word) length-encoded)
+      sym (by-entries spelled (sym (by-length spelled header-fits (sym total-word)) ∙ eq-eqb _ _ length-encoded))
       ∙ ap wellFormed body
       ∙ entries-formed ws few
 
   -- decoding gives the length and the writes back
   pub decoded-encoded : Every ws → decoded spelled ≡ trace vram ws
-  unfolding decoded
+  unfolding decodedUpTo
   decoded-encoded ds = rw (encoded-trace, vram-word, body, writes-entries ws few ds)

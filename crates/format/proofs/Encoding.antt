@@ -55,7 +55,7 @@ module _ (v : List ℕ) (fits : Bytes v) where
       ))
 
 -- a part is the entries of its writes
-entries-writes : (part : List ℕ) → Bytes part → wellFormed part ≡ true → entries (writes part) ≡ part
+pub entries-writes : (part : List ℕ) → Bytes part → wellFormed part ≡ true → entries (writes part) ≡ part
 unfolding writes
 entries-writes part fits e =
     let f = formed part e in

@@ -10,7 +10,7 @@ use lib.ListN.{length, drop}
 use borrow.Author.Tests.{eq-eqb, ne-eqb, le-leb, lt-leb}
 use Rattle.rules.specs.Refusal.{badLength}
 use Rattle.format.specs.Bytes.{word}
-use Rattle.format.specs.Traces.{largest, goodHeader, isTrace, wellFormed}
+use Rattle.format.specs.Traces.{largest, goodHeader, goodHeaderUpTo, fitsHeader, fitsHeaderUpTo, isTrace, isTraceUpTo, wellFormed}
 
 pub and-true : (b : Bool) → b && true ≡ b
 and-true true = refl
@@ -22,19 +22,20 @@ and-false false = refl
 
 module _ (v : List ℕ) where
   pub no-header : length v < 16 → false ≡ goodHeader v
-  unfolding goodHeader
+  unfolding goodHeaderUpTo
   no-header h = simp (lt-leb _ _ h)
 
-  pub many-entries : {count : ℕ} → count ≡ word v 0 → largest < count → false ≡ goodHeader v
-  unfolding goodHeader
-  many-entries e h = simp (lt-leb (word v 0) largest (omega (arith, e, h)), and-false)
+  -- too many, whatever the number allowed
+  pub many-entries : (most : ℕ) {count : ℕ} → count ≡ word v 0 → most < count → false ≡ goodHeaderUpTo most v
+  unfolding goodHeaderUpTo
+  many-entries most e h = simp (lt-leb (word v 0) most (omega (arith, e, h)), and-false)
 
   pub bad-offset : {offset : ℕ} → offset ≡ word v 4 → (offset ≡ 16 → ⊥) → false ≡ goodHeader v
-  unfolding goodHeader
+  unfolding goodHeaderUpTo
   bad-offset e h = simp (ne-eqb (word v 4) 16 (λ f. h (e ∙ f)), and-false)
 
   pub bad-vram : {vram : ℕ} → vram ≡ word v 8 → badLength vram ≡ true → false ≡ goodHeader v
-  unfolding goodHeader
+  unfolding goodHeaderUpTo
   bad-vram e h = simp (ap badLength (sym e) ∙ h, and-false)
 
   -- one where these fit leaves it to the total
@@ -45,7 +46,7 @@ module _ (v : List ℕ) where
       → vram ≡ word v 8 → badLength vram ≡ false
       → total ≡ word v 12
       → eqb total (16 + 12 * count) ≡ goodHeader v
-  unfolding goodHeader
+  unfolding goodHeaderUpTo
   by-total a n f b c d e t =
       simp (
         n,
@@ -56,15 +57,20 @@ module _ (v : List ℕ) where
         ap badLength (sym d) ∙ e,
       )
 
-  pub bad-header : goodHeader v ≡ false → false ≡ isTrace v
-  unfolding isTrace
-  bad-header h = rw h
+  pub bad-header : (most : ℕ) → goodHeaderUpTo most v ≡ false → false ≡ fitsHeaderUpTo most v
+  unfolding fitsHeaderUpTo
+  bad-header most h = rw h
 
-  pub other-length : {total : ℕ} → total ≡ word v 12 → (length v ≡ total → ⊥) → false ≡ isTrace v
-  unfolding isTrace
-  other-length e h = simp (ne-eqb (length v) (word v 12) (λ f. h (f ∙ sym e)), and-false)
+  -- a header that fits leaves it to the length
+  pub by-length : {total : ℕ} → goodHeader v ≡ true → total ≡ word v 12 → eqb (length v) total ≡ fitsHeader v
+  unfolding fitsHeaderUpTo
+  by-length h e = rw (h, e)
 
-  -- a header that fits leaves it to the entries
-  pub by-entries : {total : ℕ} → goodHeader v ≡ true → total ≡ word v 12 → length v ≡ total → wellFormed (drop 16 v) ≡ isTrace v
-  unfolding isTrace
-  by-entries h e f = simp (h, eq-eqb (length v) (word v 12) (f ∙ e))
+  pub not-fitting : (most : ℕ) → fitsHeaderUpTo most v ≡ false → false ≡ isTraceUpTo most v
+  unfolding isTraceUpTo
+  not-fitting most h = rw h
+
+  -- and that to the entries
+  pub by-entries : fitsHeader v ≡ true → wellFormed (drop 16 v) ≡ isTrace v
+  unfolding isTraceUpTo
+  by-entries h = rw h

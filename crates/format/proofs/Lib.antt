@@ -6,8 +6,10 @@ pub mod HeaderTests
 pub mod Parts
 pub mod Tested
 pub mod Checking
+pub mod Raised
 pub mod Encoding
 pub mod Decoding
 pub mod RecordingTests
 pub mod Growing
 pub mod RoundTrip
+pub mod Extending

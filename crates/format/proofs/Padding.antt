@@ -6,19 +6,21 @@ use Prim.Native.Nat.{ℕ, suc, _+_, _-_, _*_, _/_, _%_, _≤_, _<_}
 use native.Mathlib.Omega.{arith}
 use lib.ListN.{length, getD}
 use borrow.Author.Tests.{eq-eqb, ne-eqb, le-leb, lt-leb}
-use Rattle.format.specs.Traces.{largest, paddedAt, wellFormed}
+use Rattle.format.specs.Traces.{largest, paddedAt, wellFormed, wellFormedUpTo}
+use Rattle.format.proofs.HeaderTests.{and-false}
 
 pub not-whole : (v : List ℕ) → (length v % 12 ≡ 0 → ⊥) → false ≡ wellFormed v
-unfolding wellFormed
+unfolding wellFormedUpTo
 not-whole v h = simp (ne-eqb _ _ h)
 
-pub too-many : (v : List ℕ) → length v % 12 ≡ 0 → largest < length v / 12 → false ≡ wellFormed v
-unfolding wellFormed
-too-many v h g = simp (eq-eqb _ _ h, lt-leb _ _ g)
+-- too many, whatever the number allowed
+pub too-many : (most : ℕ) (v : List ℕ) → most < length v / 12 → false ≡ wellFormedUpTo most v
+unfolding wellFormedUpTo
+too-many most v g = simp (lt-leb _ _ g, and-false)
 
 -- a part of whole entries, not too many, is well-formed where its padding is zero
 pub by-padding : (v : List ℕ) → length v % 12 ≡ 0 → length v / 12 ≤ largest → paddedAt v 0 (length v / 12) ≡ wellFormed v
-unfolding wellFormed
+unfolding wellFormedUpTo
 by-padding v h g = simp (eq-eqb _ _ h, le-leb _ _ g)
 
 -- no entry is left

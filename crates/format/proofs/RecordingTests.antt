@@ -1,19 +1,20 @@
 -- The numbers of starting and appending: one law for each answer of the code, and what an accepted one says. Assumes nothing.
 use mathlib.Core.Path.{_≡_, refl, sym, _∙_}
-use mathlib.Core.Bool.{Bool, true, false, cond, not, _||_}
+use mathlib.Core.Bool.{Bool, true, false, cond, _&&_, _||_}
 use mathlib.Core.List.{List}
-use Prim.Native.Nat.{ℕ, _+_, _-_, _≤_, _<_}
+use Prim.Native.Nat.{ℕ, _+_, _≤_, _<_}
 use native.Mathlib.Nat.{zero-lt-suc}
 use native.Mathlib.Omega.{arith}
-use lib.Dec.{eqb, ltb}
+use lib.Dec.{eqb, ltb, leb}
 use lib.ListN.{length, take}
-use borrow.Author.Tests.{eq-eqb, ne-eqb, lt-ltb, le-ltb, ltb-false, eqb-false, not-false}
+use borrow.Author.Tests.{eq-eqb, ne-eqb, lt-ltb, le-ltb, ltb-false, leb-true, le-leb, lt-leb, eqb-false}
 use Rattle.card.specs.declared.Write.{Write}
 use Rattle.rules.specs.Refusal.{badLength, badSpace}
-use Rattle.rules.proofs.Tests.{neither}
+use Rattle.rules.proofs.Tests.{both, neither}
 use Rattle.format.specs.Bytes.{word}
-use Rattle.format.specs.Traces.{largest, isTrace}
-use Rattle.format.specs.Recording.{startNumber, appendNumber}
+use Rattle.format.specs.Traces.{largest, fitsHeader, isTrace}
+use Rattle.format.specs.Recording.{startNumber, numberWhere, lengthWhere, holdsTrace, appendNumber, holdsHeader, extendNumber}
+use Rattle.format.proofs.Tested.{trace-fitting}
 
 or-true : (b : Bool) → b || true ≡ true
 or-true true = refl
@@ -34,53 +35,97 @@ room-to-start size vram e =
     let (_, r) = passed (badLength vram) 1 _ (zero-lt-suc 0) e in
     ltb-false _ _ (passed (ltb size 16) 11 0 (zero-lt-suc 10) r .0)
 
-module _ (b : List ℕ) (used : ℕ) (w : Write) where
-  pub too-long : length b < used → 10 ≡ appendNumber b used w
-  unfolding appendNumber
-  too-long h = simp (lt-ltb _ _ h)
+-- the tests of the first bytes, where there are so many or not
+module _ (b : List ℕ) (used : ℕ) where
+  pub holds-trace-short : length b < used → false ≡ holdsTrace b used
+  unfolding holdsTrace
+  holds-trace-short h = rw (lt-leb _ _ h)
 
-  pub no-trace : isTrace (take used b) ≡ false → 10 ≡ appendNumber b used w
-  unfolding appendNumber
-  no-trace e = simp (e, or-true)
+  pub holds-trace-long : used ≤ length b → isTrace (take used b) ≡ holdsTrace b used
+  unfolding holdsTrace
+  holds-trace-long h = rw (le-leb _ _ h)
 
-  module _ (within : used ≤ length b) (trace : isTrace (take used b) ≡ true) where
-    pub bad-write : badSpace w ≡ true → 2 ≡ appendNumber b used w
-    unfolding appendNumber
-    bad-write s = simp (le-ltb _ _ within, trace, s)
+  pub holds-header-short : length b < used → false ≡ holdsHeader b used
+  unfolding holdsHeader
+  holds-header-short h = rw (lt-leb _ _ h)
+
+  pub holds-header-long : used ≤ length b → fitsHeader (take used b) ≡ holdsHeader b used
+  unfolding holdsHeader
+  holds-header-long h = rw (le-leb _ _ h)
+
+-- one write more, where the first bytes are taken for a trace or not
+module _ (t : Bool) (b : List ℕ) (used : ℕ) (w : Write) where
+  pub no-trace : t ≡ false → 10 ≡ numberWhere t b used w
+  unfolding numberWhere
+  no-trace e = rw e
+
+  module _ (trace : t ≡ true) where
+    pub bad-write : badSpace w ≡ true → 2 ≡ numberWhere t b used w
+    unfolding numberWhere
+    bad-write s = simp (trace, s)
 
     module _ (space : badSpace w ≡ false) where
-      pub no-room : length b - used < 12 → 11 ≡ appendNumber b used w
-      unfolding appendNumber
-      no-room h = simp (le-ltb _ _ within, trace, space, lt-ltb (length b) (used + 12) (omega arith))
+      pub no-room : length b < used + 12 → 11 ≡ numberWhere t b used w
+      unfolding numberWhere
+      no-room h = simp (trace, space, lt-ltb (length b) (used + 12) h)
 
-      module _ (room : 12 ≤ length b - used) {count : ℕ} (e : count ≡ word b 0) where
-        pub full : count ≡ largest → 11 ≡ appendNumber b used w
-        unfolding appendNumber
-        full h = simp (le-ltb _ _ within, trace, space, eq-eqb (word b 0) largest (sym e ∙ h), or-true)
+      module _ (room : used + 12 ≤ length b) {count : ℕ} (e : count ≡ word b 0) where
+        pub full : count ≡ largest → 11 ≡ numberWhere t b used w
+        unfolding numberWhere
+        full h = simp (trace, space, eq-eqb (word b 0) largest (sym e ∙ h), or-true)
 
-        pub fits : (count ≡ largest → ⊥) → 0 ≡ appendNumber b used w
-        unfolding appendNumber
-        fits h =
-            simp (
-              le-ltb _ _ within,
-              trace,
-              space,
-              le-ltb (length b) (used + 12) (omega arith),
-              ne-eqb (word b 0) largest (λ f. h (e ∙ f)),
-            )
+        pub fits : (count ≡ largest → ⊥) → 0 ≡ numberWhere t b used w
+        unfolding numberWhere
+        fits h = simp (trace, space, le-ltb (length b) (used + 12) room, ne-eqb (word b 0) largest (λ f. h (e ∙ f)))
 
-pub record Appendable (b : List ℕ) (used : ℕ) : Type 0 where
+  accepted : numberWhere t b used w ≡ 0 → (t ≡ true) × (used + 12 ≤ length b) × (word b 0 ≡ largest → ⊥)
+  unfolding numberWhere
+  accepted e = go t refl e
+    where
+      full-or-short : Bool
+      full-or-short = ltb (length b) (used + 12) || eqb (word b 0) largest
+
+      go : (x : Bool) → t ≡ x → _≡_ {A = ℕ} (cond x (cond (badSpace w) 2 (cond full-or-short 11 0)) 10) 0
+          → (t ≡ true) × (used + 12 ≤ length b) × (word b 0 ≡ largest → ⊥)
+      go true d e =
+          let (_, r) = passed (badSpace w) 2 (cond full-or-short 11 0) (zero-lt-suc 1) e in
+          let (f, _) = passed full-or-short 11 0 (zero-lt-suc 10) r in
+          let (room, few) = neither (ltb (length b) (used + 12)) (eqb (word b 0) largest) f in
+          (d, ltb-false _ _ room, eqb-false _ _ few)
+      go false d e = absurd (omega (arith, e))
+
+  -- the length answered
+  pub refused-length : (numberWhere t b used w ≡ 0 → ⊥) → 0 ≡ lengthWhere t b used w
+  unfolding lengthWhere
+  refused-length n = rw (ne-eqb _ _ n)
+
+  pub accepted-length : numberWhere t b used w ≡ 0 → used + 12 ≡ lengthWhere t b used w
+  unfolding lengthWhere
+  accepted-length e = rw (eq-eqb _ _ e)
+
+-- a trace fits its header
+pub trace-header : (b : List ℕ) (used : ℕ) → holdsTrace b used ≡ true → holdsHeader b used ≡ true
+unfolding holdsTrace holdsHeader
+trace-header b used e = let (within, trace) = both (leb used (length b)) (isTrace (take used b)) e in rw (within, trace-fitting (take used b) trace)
+
+-- the first bytes fit their header, and there is room for an entry after them
+pub record Growable (b : List ℕ) (used : ℕ) : Type 0 where
   pub within : used ≤ length b
-  pub trace : isTrace (take used b) ≡ true
+  pub fits-header : fitsHeader (take used b) ≡ true
   pub room : used + 12 ≤ length b
   pub few : word b 0 ≡ largest → ⊥
 
-pub appendable : (b : List ℕ) (used : ℕ) (w : Write) → appendNumber b used w ≡ 0 → Appendable b used
-unfolding appendNumber
-appendable b used w e =
-    let (a, r) = passed (ltb (length b) used || not (isTrace (take used b))) 10 _ (zero-lt-suc 9) e in
-    let (_, s) = passed (badSpace w) 2 _ (zero-lt-suc 1) r in
-    let (d, _) = passed (ltb (length b) (used + 12) || eqb (word b 0) largest) 11 0 (zero-lt-suc 10) s in
-    let (within, trace) = neither _ _ a in
-    let (room, few) = neither _ _ d in
-    record { within = ltb-false _ _ within; trace = not-false _ trace; room = ltb-false _ _ room; few = eqb-false _ _ few }
+pub growable : (t : Bool) (b : List ℕ) (used : ℕ) (w : Write) → (t ≡ true → holdsHeader b used ≡ true) → numberWhere t b used w ≡ 0 → Growable b used
+unfolding holdsHeader
+growable t b used w h e =
+    let (taken, room, few) = accepted t b used w e in
+    let (within, fits-header) = both (leb used (length b)) (fitsHeader (take used b)) (h taken) in
+    record { within = leb-true _ _ within; fits-header = fits-header; room = room; few = few }
+
+pub appendable : (b : List ℕ) (used : ℕ) (w : Write) → appendNumber b used w ≡ 0 → Growable b used
+appendable b used w e = growable (holdsTrace b used) b used w (trace-header b used) e
+
+-- what an append accepts is a trace
+pub appends-to-trace : (b : List ℕ) (used : ℕ) (w : Write) → appendNumber b used w ≡ 0 → isTrace (take used b) ≡ true
+unfolding holdsTrace
+appends-to-trace b used w e = both (leb used (length b)) (isTrace (take used b)) (accepted _ b used w e .0) .1

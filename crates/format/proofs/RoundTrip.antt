@@ -13,14 +13,14 @@ use Rattle.card.specs.declared.Write.{Write}
 use Rattle.rules.specs.Refusal.{badLength}
 use Rattle.span.specs.Fragments.{Bytes}
 use Rattle.format.specs.Bytes.{word}
-use Rattle.format.specs.Traces.{largest, Delivered, encoded, writes, wellFormed, isTrace, malformed, trace, decoded, checkNumber, checkLength, checkPart}
-use Rattle.format.specs.Recording.{startNumber, startLength, started, appendNumber, appendLength, appended}
+use Rattle.format.specs.Traces.{largest, Delivered, encoded, writes, wellFormed, isTrace, malformed, trace, decoded, decodedUpTo, checkNumber, checkLength, checkPart}
+use Rattle.format.specs.Recording.{startNumber, startLength, started, lengthWhere, appendNumber, appendLength, appended}
 use Rattle.format.proofs.Tested.{traced}
 use Rattle.format.proofs.Checking.{good}
 use Rattle.format.proofs.Encoding.{encoded-writes}
 use Rattle.format.proofs.Decoding.{Every, none, more, count-word, vram-word, body, writes-entries, length-encoded, encoded-trace, decoded-encoded}
 use Rattle.format.proofs.RecordingTests.{good-start, appendable}
-use Rattle.format.proofs.Growing.{same-count, count-below}
+use Rattle.format.proofs.Growing.{same-count, header-within, count-below}
 
 -- an accepted start and any appends, refused ones among them, have recorded these writes: the buffer, and the length that the last
 -- accepted one returned
@@ -56,7 +56,7 @@ begin vram b e =
 
 step : {vram : ℕ} {ws : List Write} {b : List ℕ} {used : ℕ} → Holds vram ws b used → (w : Write) → Delivered w → appendNumber b used w ≡ 0
     → Holds vram (ws ++ (w ∷ [])) (appended b used w) (appendLength b used w)
-unfolding appended appendLength
+unfolding appended lengthWhere
 step {vram} {ws} {b} {used} h w d e =
     let z : eqb (appendNumber b used w) 0 ≡ true = eq-eqb _ _ e in
     let a = appendable b used w e in
@@ -68,7 +68,7 @@ step {vram} {ws} {b} {used} h w d e =
     ∙ writes-entries ws (h .few) (h .delivered)
     in
     let counts : word b 0 ≡ length ws =
-    sym (same-count b used a) ∙ ap (λ (l : List ℕ). word l 0) (h .spelled) ∙ count-word vram ws (h .good) (h .few)
+    sym (same-count b used (header-within b used a) (a .room)) ∙ ap (λ (l : List ℕ). word l 0) (h .spelled) ∙ count-word vram ws (h .good) (h .few)
     in
     let longer : length (ws ++ (w ∷ [])) ≡ length ws + 1 = length-append ws (w ∷ []) in
     let few : length (ws ++ (w ∷ [])) ≤ largest = omega (arith, count-below b used a) in
@@ -94,6 +94,10 @@ holds (and-not {b = b} {used = used} r w n) = rw (kept b used w n) (holds r)
 -- what a start and any appends wrote is `encoded`
 pub recorded : {vram : ℕ} {ws : List Write} {b : List ℕ} {used : ℕ} → Recorded vram ws b used → take used b ≡ encoded vram ws
 recorded r = holds r .spelled
+
+-- and a trace
+pub recorded-trace : {vram : ℕ} {ws : List Write} {b : List ℕ} {used : ℕ} → Recorded vram ws b used → isTrace (take used b) ≡ true
+recorded-trace r = let h = holds r in ap isTrace (h .spelled) ∙ encoded-trace _ _ (h .good) (h .few)
 
 -- it is read back as the same writes
 pub read-back : {vram : ℕ} {ws : List Write} {b : List ℕ} {used : ℕ} → Recorded vram ws b used → decoded (take used b) ≡ trace vram ws
@@ -128,7 +132,7 @@ equal-bytes r r′ = recorded r ∙ sym (recorded r′)
 
 -- whatever decodes is the bytes of what it decodes to: one spelling of each trace
 pub one-spelling : (v : List ℕ) {vram : ℕ} {ws : List Write} → Bytes v → decoded v ≡ trace vram ws → v ≡ encoded vram ws
-unfolding decoded
+unfolding decodedUpTo
 one-spelling v {vram} {ws} fits e = go (isTrace v) refl e
   where
     go : (b : Bool) → isTrace v ≡ b → cond b (trace (word v 8) (writes (drop 16 v))) malformed ≡ trace vram ws → v ≡ encoded vram ws

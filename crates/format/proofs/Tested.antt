@@ -9,7 +9,7 @@ use borrow.Author.Tests.{eqb-true, leb-true, not-true}
 use Rattle.rules.specs.Refusal.{badLength}
 use Rattle.rules.proofs.Tests.{both}
 use Rattle.format.specs.Bytes.{word}
-use Rattle.format.specs.Traces.{largest, entryCount, paddedAt, wellFormed, goodHeader, isTrace}
+use Rattle.format.specs.Traces.{largest, entryCount, paddedAt, wellFormed, wellFormedUpTo, goodHeader, goodHeaderUpTo, fitsHeader, fitsHeaderUpTo, isTrace, isTraceUpTo}
 
 pub record Formed (part : List ℕ) : Type 0 where
   pub whole : length part ≡ 12 * entryCount part
@@ -17,7 +17,7 @@ pub record Formed (part : List ℕ) : Type 0 where
   pub padded : paddedAt part 0 (entryCount part) ≡ true
 
 pub formed : (part : List ℕ) → wellFormed part ≡ true → Formed part
-unfolding wellFormed
+unfolding wellFormedUpTo
 formed part e =
     let (a, r) = both _ _ e in
     let (b, c) = both _ _ r in
@@ -34,7 +34,7 @@ pub record Headed (v : List ℕ) : Type 0 where
   pub total : word v 12 ≡ 16 + 12 * word v 0
 
 pub headed : (v : List ℕ) → goodHeader v ≡ true → Headed v
-unfolding goodHeader
+unfolding goodHeaderUpTo
 headed v e =
     let (a, r) = both _ _ e in
     let (b, s) = both _ _ r in
@@ -51,13 +51,27 @@ pub record Traced (v : List ℕ) : Type 0 where
   pub whole : length v ≡ word v 12
   pub entries : wellFormed (drop 16 v) ≡ true
 
+-- bytes that are as many as their header says
+pub fitting : (v : List ℕ) → fitsHeader v ≡ true → (goodHeader v ≡ true) × (length v ≡ word v 12)
+unfolding fitsHeaderUpTo
+fitting v e = let (g, f) = both _ _ e in (g, eqb-true _ _ f)
+
+-- a trace fits its header
+pub trace-fitting : (v : List ℕ) → isTrace v ≡ true → fitsHeader v ≡ true
+unfolding isTraceUpTo
+trace-fitting v e = both _ _ e .0
+
 pub traced : (v : List ℕ) → isTrace v ≡ true → Traced v
-unfolding isTrace
+unfolding isTraceUpTo
 traced v e =
-    let (g, r) = both _ _ e in
-    let (f, t) = both _ _ r in
+    let (f, t) = both _ _ e in
+    let (g, whole) = fitting v f in
     let h = headed v g in
-    record { good = g; header = h .header; offset = h .offset; vram = h .vram; total = h .total; whole = eqb-true _ _ f; entries = t }
+    record { good = g; header = h .header; offset = h .offset; vram = h .vram; total = h .total; whole = whole; entries = t }
+
+-- no trace is longer than this
+pub longest : (v : List ℕ) → isTrace v ≡ true → length v ≤ 786448
+longest v e = let t = traced v e in let h = headed v (t .good) in omega (arith, t .whole, t .total, h .few)
 
 -- the header's count is the number of entries
 pub counted : (v : List ℕ) → Traced v → entryCount (drop 16 v) ≡ word v 0

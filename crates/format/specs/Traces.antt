@@ -8,9 +8,9 @@ use Rattle.card.specs.declared.Write.{Write}
 use Rattle.rules.specs.Refusal.{badLength}
 use Rattle.format.specs.Bytes.{word, bytes}
 
--- at most so many entries
+-- at most so many entries: change request 6, which raised it from 4,096
 abbrev pub largest : ℕ
-largest = 4096
+largest = 65536
 
 -- a write as the bus delivers it
 pub record Delivered (w : Write) : Type 0 where
@@ -68,38 +68,71 @@ entryCount part = length part / entrySize
 unfoldable pub writes : List ℕ → List Write
 writes part = writesAt part 0 (entryCount part)
 
--- a part that can be run: whole entries, at most the largest number, every pad byte zero
-unfoldable pub wellFormed : List ℕ → Bool
-wellFormed part = eqb (length part % entrySize) 0 && (leb (entryCount part) largest && paddedAt part 0 (entryCount part))
-
--- the bytes begin with the header of a trace: at most the largest number of entries, their offset, a VRAM length that number 1 would not
--- refuse, and the total
-unfoldable pub goodHeader : List ℕ → Bool
-goodHeader v =
-    leb headerSize (length v)
-    && (leb (word v 0) largest
-    && (eqb (word v 4) headerSize
-    && (not (badLength (word v 8))
-    && eqb (word v 12) (headerSize + entrySize * word v 0))))
-
--- the bytes are a trace
-unfoldable pub isTrace : List ℕ → Bool
-isTrace v = goodHeader v && (eqb (length v) (word v 12) && wellFormed (drop headerSize v))
-
 -- what bytes say: a VRAM length and writes, or nothing
 pub data Decoded : Type 0 where
   malformed : Decoded
   trace : (vram : ℕ) (ws : List Write) → Decoded
 
-unfoldable pub decoded : List ℕ → Decoded
-decoded v = cond (isTrace v) (trace (word v 8) (writes (drop headerSize v))) malformed
+-- ---- Where at most so many entries are allowed, whatever the number.
 
--- what a check answers: 10 where the bytes are no trace; the entries as a part of the bytes, or an empty part; the VRAM length, or 0
-unfoldable pub checkNumber : List ℕ → ℕ
-checkNumber v = cond (isTrace v) 0 10
+module _ (most : ℕ) where
+  -- a part that can be run: whole entries, not too many, every pad byte zero
+  unfoldable pub wellFormedUpTo : List ℕ → Bool
+  wellFormedUpTo part = eqb (length part % entrySize) 0 && (leb (entryCount part) most && paddedAt part 0 (entryCount part))
 
-unfoldable pub checkPart : List ℕ → List ℕ
-checkPart v = cond (isTrace v) (drop headerSize v) []
+  -- the bytes begin with the header of a trace: not too many entries, their offset, a VRAM length that number 1 would not refuse, and the total
+  unfoldable pub goodHeaderUpTo : List ℕ → Bool
+  goodHeaderUpTo v =
+      leb headerSize (length v)
+      && (leb (word v 0) most
+      && (eqb (word v 4) headerSize
+      && (not (badLength (word v 8))
+      && eqb (word v 12) (headerSize + entrySize * word v 0))))
 
-unfoldable pub checkLength : List ℕ → ℕ
-checkLength v = cond (isTrace v) (word v 8) 0
+  -- and are as many as the header's total says
+  unfoldable pub fitsHeaderUpTo : List ℕ → Bool
+  fitsHeaderUpTo v = goodHeaderUpTo v && eqb (length v) (word v 12)
+
+  -- the bytes are a trace
+  unfoldable pub isTraceUpTo : List ℕ → Bool
+  isTraceUpTo v = fitsHeaderUpTo v && wellFormedUpTo (drop headerSize v)
+
+  -- what they say
+  unfoldable pub decodedUpTo : List ℕ → Decoded
+  decodedUpTo v = cond (isTraceUpTo v) (trace (word v 8) (writes (drop headerSize v))) malformed
+
+  -- what a check answers: 10 where the bytes are no trace; the entries as a part of the bytes, or an empty part; the VRAM length, or 0
+  unfoldable pub checkNumberUpTo : List ℕ → ℕ
+  checkNumberUpTo v = cond (isTraceUpTo v) 0 10
+
+  unfoldable pub checkPartUpTo : List ℕ → List ℕ
+  checkPartUpTo v = cond (isTraceUpTo v) (drop headerSize v) []
+
+  unfoldable pub checkLengthUpTo : List ℕ → ℕ
+  checkLengthUpTo v = cond (isTraceUpTo v) (word v 8) 0
+
+-- ---- The same at the largest number.
+
+abbrev pub wellFormed : List ℕ → Bool
+wellFormed = wellFormedUpTo largest
+
+abbrev pub goodHeader : List ℕ → Bool
+goodHeader = goodHeaderUpTo largest
+
+abbrev pub fitsHeader : List ℕ → Bool
+fitsHeader = fitsHeaderUpTo largest
+
+abbrev pub isTrace : List ℕ → Bool
+isTrace = isTraceUpTo largest
+
+abbrev pub decoded : List ℕ → Decoded
+decoded = decodedUpTo largest
+
+abbrev pub checkNumber : List ℕ → ℕ
+checkNumber = checkNumberUpTo largest
+
+abbrev pub checkPart : List ℕ → List ℕ
+checkPart = checkPartUpTo largest
+
+abbrev pub checkLength : List ℕ → ℕ
+checkLength = checkLengthUpTo largest

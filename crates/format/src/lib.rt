@@ -12,4 +12,4 @@ pub const OFFSET: u32 = HEADER as u32;
 pub const STEP: u32 = ENTRY as u32;
 
 // The largest number of entries.
-pub const LARGEST: usize = 4096;
+pub const LARGEST: usize = 65536;

@@ -6,7 +6,7 @@ use Prim.Native.Nat.{ℕ}
 use lib.ListN.{length, drop}
 use Rattle.card.specs.declared.Write.{Write}
 use Rattle.format.specs.Traces.{headerSize, checkNumber, checkLength, checkPart}
-use Rattle.format.specs.Recording.{startNumber, startLength, started, appendNumber, appendLength, appended}
+use Rattle.format.specs.Recording.{startNumber, startLength, started, appendNumber, appendLength, appended, extendNumber, extendLength, extended}
 use Rattle.host.specs.declared.Checked.{Checked}
 
 -- buffer b and a length of VRAM gave answer r, and left buffer b′
@@ -20,6 +20,12 @@ pub record Grew (b : List ℕ) (used : ℕ) (w : Write) (r : Checked) (b′ : Li
   pub number : r .number ≡ appendNumber b used w
   pub lengths : r .length ≡ appendLength b used w
   pub leaves : b′ ≡ appended b used w
+
+-- the same of extending
+pub record Extended (b : List ℕ) (used : ℕ) (w : Write) (r : Checked) (b′ : List ℕ) : Type 0 where
+  pub number : r .number ≡ extendNumber b used w
+  pub lengths : r .length ≡ extendLength b used w
+  pub leaves : b′ ≡ extended b used w
 
 -- bytes v gave answer r. Where its number is 0, the entries are the bytes from 16 on
 pub record Looked (v : List ℕ) (r : Checked) : Type 0 where

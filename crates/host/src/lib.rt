@@ -6,12 +6,12 @@
 ghost use mathlib.Core.Path.{_≡_};
 ghost use Rattle.card.specs.Reset.{resetCard};
 ghost use Rattle.answers.specs.Answers.{writeOf, Wrote};
-ghost use Rattle.host.specs.Buffers.{Began, Grew, Looked};
+ghost use Rattle.host.specs.Buffers.{Began, Grew, Extended, Looked};
 use answers::Answer;
 use card::Card;
 use card::Write;
 
-// What starting, appending and checking answer: the number, and a length in bytes.
+// What starting, appending, extending and checking answer: the number, and a length in bytes.
 #[repr(C)]
 pub struct Checked {
     pub number: u32,
@@ -86,6 +86,32 @@ pub extern "C" fn zevkholtai_append(
         data: word,
     };
     let grown = recording::append(buffer, used, w);
+    let length = grown.length as u32;
+    Checked {
+        number: grown.number,
+        length,
+    }
+}
+
+// The same for what is known for a trace: it takes no longer where the trace is long.
+#[no_mangle]
+pub extern "C" fn zevkholtai_extend(
+    buffer: &mut [u8],
+    used: usize,
+    space: u8,
+    lanes: u8,
+    address: u32,
+    word: u32,
+) -> Checked
+    ensures { λ r. ⌜ Extended (now (buffer .entry)) used (writeOf space lanes address word) r (now (buffer .exit)) ⌝ }
+{
+    let w = Write {
+        space,
+        lanes,
+        address,
+        data: word,
+    };
+    let grown = recording::extend(buffer, used, w);
     let length = grown.length as u32;
     Checked {
         number: grown.number,

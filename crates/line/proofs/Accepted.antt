@@ -7,18 +7,17 @@ use Prim.Native.Nat.{ℕ, zero, suc, _+_, _*_, _≤_}
 use native.Mathlib.Nat.{add-zero}
 use native.Mathlib.Omega.{arith}
 use lib.Dec.{eqb, leb}
-use lib.ListN.{length, getD, drop, length-drop}
+use lib.ListN.{length, getD, drop}
 use borrow.Author.Tests.{eq-eqb, eqb-true, eqb-false, le-leb}
 use Rattle.card.specs.declared.Card.{Card}
 use Rattle.card.specs.declared.Write.{Write}
 use Rattle.rules.specs.Refusal.{badLength}
 use Rattle.format.specs.Bytes.{word}
-use Rattle.format.specs.Traces.{writeAt, writesAt, paddedAt, entryCount, writes, wellFormed, goodHeader, isTrace, checkPart}
+use Rattle.format.specs.Traces.{writeAt, writesAt, paddedAt, entryCount, writes, wellFormed, goodHeader, isTrace, checkPart, checkPartUpTo}
 use Rattle.rules.proofs.Tests.{both}
 use Rattle.format.proofs.Tested.{headed, traced, formed, counted}
-use Rattle.format.proofs.HeaderTests.{by-entries}
-use Rattle.format.proofs.Padding.{by-padding}
-use Rattle.format.proofs.Decoding.{writesAt-drop, paddedAt-drop}
+use Rattle.format.proofs.HeaderTests.{by-length}
+use Rattle.format.proofs.Decoding.{by-pads, writesAt-drop, paddedAt-drop}
 use Rattle.trace.specs.Run.{State, nothing, answer, apply, refuse, ran, run}
 use Rattle.trace.proofs.Runs.{run-bad, run-good}
 use Rattle.line.specs.Serial.{stateOf, chunks, joined, finished}
@@ -66,7 +65,7 @@ module _ (v : List ℕ) where
 module _ (v : List ℕ) (c : Card) (p : List ℕ) where
   -- a trace is run whole
   arrives-run : (b : ℕ) → isTrace v ≡ true → word v 0 ≤ b → badLength (length p) ≡ false → arrives v c p ≡ run (checkPart v) b c p
-  unfolding arrives checkPart writes
+  unfolding arrives checkPartUpTo writes
   arrives-run b e h g =
       let t = traced v e in
       let n : entryCount (drop 16 v) ≡ word v 0 = counted v t in
@@ -87,13 +86,7 @@ module _ (v : List ℕ) (c : Card) (p : List ℕ) where
       go true g n =
           let h = headed v g in
           let (long, pads) = all-there v (word v 0) 16 (nothing 0 c p) n in
-          let size : length (drop 16 v) ≡ 12 * word v 0 = omega (arith, length-drop 16 v, long) in
-          let count : entryCount (drop 16 v) ≡ word v 0 = omega (arith, size) in
-          sym (by-entries v g refl (long ∙ sym (h .total)))
-          ∙ sym (by-padding (drop 16 v) (omega (arith, size)) (omega (arith, count, h .few)))
-          ∙ ap (paddedAt (drop 16 v) 0) count
-          ∙ paddedAt-drop 16 v 0 (word v 0)
-          ∙ pads
+          sym (by-pads v (sym (by-length v g refl) ∙ eq-eqb _ _ (long ∙ sym (h .total)))) ∙ pads
       go false g n = absurd (omega (arith, n))
 
   -- ---- The theorems: the bytes v arrive in one or more chunks of any length.
@@ -102,7 +95,7 @@ module _ (v : List ℕ) (c : Card) (p : List ℕ) where
     -- for a trace, under any budget that covers its entries
     pub one-whole-run : (budget : ℕ) → isTrace v ≡ true → entryCount (checkPart v) ≤ budget
         → stateOf (finished (chunks (bs ∷ rest) (fresh c p))) ≡ run (checkPart v) budget c p
-    unfolding checkPart
+    unfolding checkPartUpTo
     one-whole-run b e h = go (badLength (length p)) refl
       where
         part : checkPart v ≡ drop 16 v

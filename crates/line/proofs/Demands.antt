@@ -21,7 +21,7 @@ use Rattle.demands.proofs.Demand1.{answered}
 use Rattle.demands.proofs.Demand2.{held-through, held-chosen}
 use Rattle.format.specs.Bytes.{word}
 use Rattle.format.specs.Traces.{largest, headerSize, entrySize, writeAt, writesAt, goodHeader}
-use Rattle.trace.specs.Run.{State, nothing, answer, apply, refuse}
+use Rattle.trace.specs.Run.{State, nothing, answer, apply, refuse, mostPixels}
 use Rattle.line.specs.declared.Reader.{Reader}
 use Rattle.line.specs.Serial.{Standing, stateOf, complete, stuck, sticks, waits, opens, draws, byte, reads, sound, chunk, chunks, joined, ended, finished}
 use Rattle.line.specs.Arrival.{breaks, entryThere, entriesArrive, arrives}
@@ -157,9 +157,9 @@ chunks-sound (bs ∷ rest) s h =
     chunks-sound rest (chunk bs s)
     (by-chunk (λ t. Sound (t .reader)) bs s h (λ n _. record { space = h .space; within = h .within; few = h .few; total = h .total; changes = h .changes }) (λ _ _. reads-sound bs s h))
 
--- at most 4,096 entries and 8,388,608 pixels, and of these at most all changed, from a new reader and from any that can be
+-- at most 65,536 entries and 134,217,728 pixels, and of these at most all changed, from a new reader and from any that can be
 pub totals : (rest : List (List ℕ)) (s : Standing) → sound (s .reader) ≡ true
-    → (chunks rest s .reader .applied ≤ largest) × (chunks rest s .reader .pixels ≤ 8388608) × (chunks rest s .reader .changed ≤ chunks rest s .reader .pixels)
+    → (chunks rest s .reader .applied ≤ largest) × (chunks rest s .reader .pixels ≤ mostPixels) × (chunks rest s .reader .changed ≤ chunks rest s .reader .pixels)
 totals rest s e =
     let h = chunks-sound rest s (to-sound _ e) in
     (omega (arith, h .within, h .few), omega (arith, h .within, h .few, h .total), h .changes)

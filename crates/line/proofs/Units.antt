@@ -11,7 +11,7 @@ use borrow.Author.Tests.{eqb-true, ne-eqb, le-leb}
 use Rattle.card.specs.Registers.{isSet}
 use Rattle.card.specs.declared.Write.{Write}
 use Rattle.format.specs.Bytes.{word}
-use Rattle.format.specs.Traces.{writeAt, goodHeader}
+use Rattle.format.specs.Traces.{writeAt, goodHeader, goodHeaderUpTo}
 use Rattle.format.proofs.HeaderTests.{and-false}
 use Rattle.line.specs.Serial.{Standing, awaited, complete, badPad, sticks, waits, opens, draws, byte, reads}
 use Rattle.line.proofs.Steps.{reads-stuck, byte-pad, byte-waits, byte-draws, byte-opens, byte-bad-header}
@@ -53,7 +53,7 @@ front-entry u ws h =
     )
 
 front-header : (u ws : List ℕ) → 16 ≤ length u → goodHeader (front 16 u ws) ≡ goodHeader u
-unfolding goodHeader
+unfolding goodHeaderUpTo
 front-header u ws h =
     let long : 16 ≤ length (front 16 u ws) = omega (arith, length-append (take 16 u) (drop 16 ws), length-take-le 16 u h) in
     cc (

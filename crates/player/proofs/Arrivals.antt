@@ -12,7 +12,7 @@ use borrow.Author.Tests.{le-leb, lt-leb, leb-true}
 use Rattle.card.specs.declared.Card.{Card}
 use Rattle.card.specs.Reset.{resetCard}
 use Rattle.format.specs.Bytes.{wordAt}
-use Rattle.format.specs.Traces.{goodHeader, isTrace, entryCount, checkNumber, checkPart, checkLength}
+use Rattle.format.specs.Traces.{goodHeader, isTrace, entryCount, checkNumber, checkNumberUpTo, checkPart, checkPartUpTo, checkLength, checkLengthUpTo}
 use Rattle.format.proofs.Inside.{word-inside}
 use Rattle.format.proofs.Tested.{headed, formed, traced}
 use Rattle.trace.specs.Run.{State}
@@ -121,14 +121,14 @@ module _ (v : List ℕ) (held : ℕ) (p : List ℕ) (trace : isTrace v ≡ true)
 
   -- the header's 16 bytes say the length
   pub length-in-the-header : lengthOf (take 16 v) ≡ n
-  unfolding lengthOf checkLength
+  unfolding lengthOf checkLengthUpTo
   length-in-the-header = let t = traced v trace in simp (trace, header-front v (t .header) ∙ t .good) (word-front v 8 (t .header) (omega arith))
 
   abbrev begun : List ℕ → Standing
   begun u = standing newReader (resetCard held) u
 
   few : entryCount (checkPart v) ≤ 2 ^ 32 - 1
-  unfolding checkPart
+  unfolding checkPartUpTo
   few = let part : checkPart v ≡ drop 16 v = simp trace in omega (arith, ap entryCount part, formed _ (traced v trace .entries) .few)
 
   runs : stateOf (finished (chunk v (begun (take n p)))) ≡ whole v held p
@@ -139,7 +139,7 @@ module _ (v : List ℕ) (held : ℕ) (p : List ℕ) (trace : isTrace v ≡ true)
   answered t = record { number = t .number; entries = t .applied; pixels = t .pixels; changed = t .changed; length = n }
 
   accepted : eqb (checkNumber v) 0 ≡ true
-  unfolding checkNumber
+  unfolding checkNumberUpTo
   accepted = simp trace
 
   module _ (bs : List ℕ) (rest : List (List ℕ)) (cut : joined (bs ∷ rest) ≡ v) where

@@ -1,13 +1,18 @@
 // Starting a trace in a buffer, and appending to it.
 ghost use mathlib.Core.Path.{_≡_};
+ghost use mathlib.Core.Bool.{true};
+ghost use Prim.Native.Nat.{_+_, _≤_, _<_};
 ghost use lib.ListN.{length};
-ghost use Rattle.format.specs.Recording.{startNumber, startLength, started, appendNumber, appendLength, appended};
+ghost use Rattle.format.specs.Bytes.{word};
+ghost use Rattle.format.specs.Recording.{startNumber, startLength, started, numberWhere, lengthWhere, holdsTrace, appendNumber, appendLength, appended, holdsHeader, extendNumber, extendLength, grown, grownWhere, extended};
+ghost use Rattle.format.specs.Traces.{headerSize, entrySize, largest};
 use crate::Length;
 use crate::storing::put_entry;
 use crate::storing::put_header;
 use bounds::bad_length;
 use bounds::bad_space;
 use card::Write;
+use checking::fits_header;
 use checking::is_trace;
 use entries::word_at;
 use format::ENTRY;
@@ -45,20 +50,43 @@ pub fn start(buffer: &mut [u8], vram: u32) -> Length
     }
 }
 
-// The number of an append to the first `used` bytes.
-fn append_number(buffer: &[u8], used: usize, w: Write) -> u32
-    ensures { λ r. ⌜ r ≡ appendNumber (now (buffer .entry)) used w ⌝ }
+// ---- One write more.
+
+// The first `used` bytes are there, and a trace.
+fn holds_trace(buffer: &[u8], used: usize) -> bool
+    ensures { λ r. ⌜ r ≡ holdsTrace (now (buffer .entry)) used ⌝ }
 {
     if buffer.len() < used {
-        return 10;
+        return false;
     }
-    if !is_trace(&buffer[..used]) {
+    is_trace(&buffer[..used])
+}
+
+// The first `used` bytes are there, and as many as their header says.
+fn holds_header(buffer: &[u8], used: usize) -> bool
+    ensures { λ r. ⌜ r ≡ holdsHeader (now (buffer .entry)) used ⌝ }
+{
+    if buffer.len() < used {
+        return false;
+    }
+    fits_header(&buffer[..used])
+}
+
+// The number of one write more, where the first `used` bytes are taken for a trace or not.
+fn number_where(taken: bool, buffer: &[u8], used: usize, w: Write) -> u32
+    ensures { λ r. ⌜ r ≡ numberWhere taken (now (buffer .entry)) used w ⌝ }
+{
+    if !taken {
         return 10;
     }
     if bad_space(w) {
         return 2;
     }
-    if buffer.len() - used < ENTRY {
+    let n = buffer.len();
+    if n < ENTRY {
+        return 11;
+    }
+    if n - ENTRY < used {
         return 11;
     }
     let count = word_at(buffer, 0) as usize;
@@ -68,6 +96,36 @@ fn append_number(buffer: &[u8], used: usize, w: Write) -> u32
     0
 }
 
+// The write's entry stored after the first `used` bytes, and counted in the header.
+fn grow(buffer: &mut [u8], used: usize, w: Write)
+    requires { ⌜ (headerSize ≤ used) × (used + entrySize ≤ length (now buffer)) × (word (now buffer) 0 < largest) ⌝ }
+    ensures { λ _. ⌜ now (buffer .exit) ≡ grown (now (buffer .entry)) used w ⌝ }
+{
+    let count = word_at(buffer, 0);
+    let vram = word_at(buffer, 8);
+    put_header(buffer, count + 1, vram);
+    put_entry(buffer, used, w);
+}
+
+// One write more, where the first `used` bytes are taken for a trace or not.
+fn one_more(taken: bool, buffer: &mut [u8], used: usize, w: Write) -> Length
+    requires { ⌜ (taken ≡ true → holdsHeader (now buffer) used ≡ true) ⌝ }
+    ensures { λ r. ⌜
+        (r .number ≡ numberWhere taken (now (buffer .entry)) used w)
+        × (r .length ≡ lengthWhere taken (now (buffer .entry)) used w)
+        × (now (buffer .exit) ≡ grownWhere taken (now (buffer .entry)) used w) ⌝ }
+{
+    let number = number_where(taken, buffer, used, w);
+    if number != 0 {
+        return Length { number, length: 0 };
+    }
+    grow(buffer, used, w);
+    Length {
+        number,
+        length: used + ENTRY,
+    }
+}
+
 // One write more in the trace of the buffer's first `used` bytes.
 pub fn append(buffer: &mut [u8], used: usize, w: Write) -> Length
     ensures { λ r. ⌜
@@ -75,16 +133,15 @@ pub fn append(buffer: &mut [u8], used: usize, w: Write) -> Length
         × (r .length ≡ appendLength (now (buffer .entry)) used w)
         × (now (buffer .exit) ≡ appended (now (buffer .entry)) used w) ⌝ }
 {
-    let number = append_number(buffer, used, w);
-    if number != 0 {
-        return Length { number, length: 0 };
-    }
-    let count = word_at(buffer, 0);
-    let vram = word_at(buffer, 8);
-    put_header(buffer, count + 1, vram);
-    put_entry(buffer, used, w);
-    Length {
-        number,
-        length: used + ENTRY,
-    }
+    one_more(holds_trace(buffer, used), buffer, used, w)
+}
+
+// The same for what is known for a trace: the header alone is judged, so that it takes no longer where the trace is long.
+pub fn extend(buffer: &mut [u8], used: usize, w: Write) -> Length
+    ensures { λ r. ⌜
+        (r .number ≡ extendNumber (now (buffer .entry)) used w)
+        × (r .length ≡ extendLength (now (buffer .entry)) used w)
+        × (now (buffer .exit) ≡ extended (now (buffer .entry)) used w) ⌝ }
+{
+    one_more(holds_header(buffer, used), buffer, used, w)
 }

@@ -22,7 +22,7 @@ use Rattle.demands.proofs.Demand2.{held-through, held-chosen}
 use Rattle.format.specs.Traces.{largest, entrySize, entryCount, writes, wellFormed}
 use Rattle.format.proofs.Tested.{Formed, formed}
 use Rattle.format.proofs.Encoding.{length-writes}
-use Rattle.trace.specs.Run.{State, nothing, apply, refuse, ran, run, unread}
+use Rattle.trace.specs.Run.{State, nothing, apply, refuse, ran, run, mostPixels, unread}
 use Rattle.trace.proofs.Remaining.{left-writes}
 use Rattle.trace.proofs.Runs.{Runs, ends, spent, refused, applied, runs, steps, counts, runs-within-budget, runs-within-entries, run-malformed, run-bad, run-good}
 
@@ -91,8 +91,8 @@ pub record Outcome (part : List ℕ) (b : ℕ) (c : Card) (v : List ℕ) (s : St
   pub within-budget : s .applied ≤ b
   pub within-part : entrySize * s .applied ≤ length part
   pub within-largest : s .applied ≤ largest
-  -- the total never exceeds 8,388,608
-  pub total : s .pixels ≤ 8388608
+  -- the total never exceeds 134,217,728
+  pub total : s .pixels ≤ mostPixels
   -- those changed never exceed the pixels
   pub changes : s .changed ≤ s .pixels
   -- demand 1: picture and card are those of the entries applied

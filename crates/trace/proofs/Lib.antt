@@ -5,4 +5,5 @@ pub mod Budgets
 pub mod Demands
 pub mod Turns
 pub mod Rerun
+pub mod Raised
 pub mod Samples

@@ -10,10 +10,10 @@ use Rattle.card.specs.declared.Write.{Write}
 use Rattle.rules.specs.Refusal.{badLength}
 use Rattle.format.specs.Traces.{checkPart}
 use Rattle.format.proofs.RoundTrip.{Recorded, checked}
-use Rattle.trace.specs.Run.{nothing, ran, run}
+use Rattle.trace.specs.Run.{nothing, ran, run, runUpTo}
 
 -- running the part that `check` hands back is running those writes: 1 where the lent VRAM has a bad length, else one write after the other
 pub run-again : {vram : ℕ} {ws : List Write} {b : List ℕ} {used : ℕ} → Recorded vram ws b used → (budget : ℕ) (c : Card) (v : List ℕ)
     → run (checkPart (take used b)) budget c v ≡ cond (badLength (length v)) (nothing 1 c v) (ran ws budget (nothing 0 c v))
-unfolding run
+unfolding runUpTo
 run-again r budget c v = let h = checked r in rw (h .runnable, h .same)

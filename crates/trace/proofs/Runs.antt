@@ -12,7 +12,7 @@ use Rattle.card.specs.declared.Write.{Write}
 use Rattle.rules.specs.Refusal.{badLength}
 use Rattle.demands.proofs.Demand1.{same-length}
 use Rattle.format.specs.Traces.{writes, wellFormed}
-use Rattle.trace.specs.Run.{State, nothing, answer, apply, refuse, ran, run}
+use Rattle.trace.specs.Run.{State, nothing, answer, apply, refuse, ran, run, runUpTo}
 
 -- from state s these writes under this budget go k entries far, to state r
 pub data Runs : List Write → ℕ → State → ℕ → State → Type 0 where
@@ -78,13 +78,13 @@ keeps-length (applied {w = w} {s = s} e p) = keeps-length p ∙ same-length (s .
 -- how a run begins: 10, then 1, then entry after entry
 module _ (part : List ℕ) (b : ℕ) (c : Card) (v : List ℕ) where
   pub run-malformed : wellFormed part ≡ false → run part b c v ≡ nothing 10 c v
-  unfolding run
+  unfolding runUpTo
   run-malformed e = rw e
 
   pub run-bad : wellFormed part ≡ true → badLength (length v) ≡ true → run part b c v ≡ nothing 1 c v
-  unfolding run
+  unfolding runUpTo
   run-bad e d = rw (e, d)
 
   pub run-good : wellFormed part ≡ true → badLength (length v) ≡ false → run part b c v ≡ ran (writes part) b (nothing 0 c v)
-  unfolding run
+  unfolding runUpTo
   run-good e d = rw (e, d)

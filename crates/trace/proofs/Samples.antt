@@ -18,7 +18,7 @@ use Rattle.rules.specs.Writes.{count, operation, layers, picture, changed, sour
 use Rattle.rules.proofs.Samples.{S1, S2, S3, S4, S5, S6, S7, S8, S9, S10, S11, samples}
 use Rattle.format.specs.Bytes.{word, bytes}
 use Rattle.trace.specs.Run.{State, nothing, apply, refuse, ran}
-use Rattle.format.specs.Traces.{header, entry, entries, encoded, writeAt, writesAt, paddedAt, writes, wellFormed, goodHeader, isTrace, trace, decoded}
+use Rattle.format.specs.Traces.{header, entry, entries, encoded, writeAt, writesAt, paddedAt, writes, wellFormedUpTo, goodHeaderUpTo, fitsHeaderUpTo, isTraceUpTo, trace, decoded, decodedUpTo}
 
 abbrev s1-write : Write
 s1-write = record { space = 0; lanes = 15; address = 0; «data» = 0x44332211 }
@@ -38,7 +38,7 @@ abbrev pub S12 : Type 0
 S12 = (encoded 64 (s1-write ∷ []) ≡ s12-bytes) × (decoded s12-bytes ≡ trace 64 (s1-write ∷ []))
 
 pub s12 : S12
-unfolding encoded header entries entry bytes byte decoded isTrace goodHeader wellFormed paddedAt writes writesAt writeAt word badLength
+unfolding encoded header entries entry bytes byte decodedUpTo isTraceUpTo fitsHeaderUpTo goodHeaderUpTo wellFormedUpTo paddedAt writes writesAt writeAt word badLength
 s12 = (refl, refl)
 
 pub all-samples : (S1 × S2 × S3 × S4 × S5 × S6 × S7 × S8 × S9 × S10 × S11) × S12

@@ -8,7 +8,7 @@ use Rattle.card.specs.declared.Card.{Card}
 use Rattle.card.specs.declared.Write.{Write}
 use Rattle.rules.specs.Refusal.{badLength, refusal}
 use Rattle.rules.specs.Writes.{count, next, picture, changed}
-use Rattle.format.specs.Traces.{entrySize, writes, wellFormed}
+use Rattle.format.specs.Traces.{largest, entrySize, writes, wellFormedUpTo}
 use Rattle.trace.specs.declared.Ran.{Ran}
 
 -- where a run stands: the number, the entries applied, the total pixels, those changed, the card and the picture
@@ -56,10 +56,18 @@ ran [] budget s = s
 ran (w ∷ ws) zero s = s
 ran (w ∷ ws) (suc budget) s = cond (eqb (answer s w) 0) (ran ws budget (apply s w)) (refuse s w)
 
--- 10 and then 1 come before anything is drawn
-unfoldable pub run : List ℕ → ℕ → Card → List ℕ → State
-run part budget c v =
-    cond (wellFormed part) (cond (badLength (length v)) (nothing 1 c v) (ran (writes part) budget (nothing 0 c v))) (nothing 10 c v)
+-- 10 and then 1 come before anything is drawn; 10 where the part has more than so many entries, or cannot be run for another reason
+unfoldable pub runUpTo : ℕ → List ℕ → ℕ → Card → List ℕ → State
+runUpTo most part budget c v =
+    cond (wellFormedUpTo most part) (cond (badLength (length v)) (nothing 1 c v) (ran (writes part) budget (nothing 0 c v))) (nothing 10 c v)
+
+-- with at most the largest number of entries (change request 6)
+abbrev pub run : List ℕ → ℕ → Card → List ℕ → State
+run = runUpTo largest
+
+-- the total pixels of a run never exceed this: 2,048 for each entry of the largest number
+abbrev pub mostPixels : ℕ
+mostPixels = 134217728
 
 -- the part after so many entries: after those applied, the unread part
 unfoldable pub unread : List ℕ → ℕ → List ℕ

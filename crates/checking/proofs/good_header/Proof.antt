@@ -26,7 +26,7 @@ cast-entries : tie.Need-cast-entries
 cast-entries c = search needs
 
 returns-2 : tie.Need-returns-2
-returns-2 c = many-entries _ (read _ 0 (omega arith) (c .before .before .if1 .left) (c .before .word-at .ensures)) (c .if2 .taken)
+returns-2 c = many-entries _ _ (read _ 0 (omega arith) (c .before .before .if1 .left) (c .before .word-at .ensures)) (c .if2 .taken)
 
 word-at-requires-2 : tie.Need-word-at-requires-2
 word-at-requires-2 c κs = search needs

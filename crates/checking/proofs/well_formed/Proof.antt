@@ -19,7 +19,7 @@ returns : tie.Need-returns Inv-loop μ-loop
 returns c = not-whole _ (c .if1 .taken)
 
 returns-2 : tie.Need-returns-2 Inv-loop μ-loop
-returns-2 c = too-many _ (c .before .if1 .left) (c .if2 .taken)
+returns-2 c = too-many _ _ (c .if2 .taken)
 
 loop-holds : tie.Need-loop-holds Inv-loop μ-loop
 loop-holds c = (search needs, ap (paddedAt _ 0) (omega arith) ∙ by-padding _ (c .before .if1 .left) (c .if2 .left))
