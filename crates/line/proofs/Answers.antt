@@ -9,7 +9,7 @@ use borrow.Author.Tests.{eq-eqb, ne-eqb, le-leb, lt-leb, lt-ltb, le-ltb}
 use Rattle.format.specs.Traces.{largest}
 use Rattle.format.proofs.HeaderTests.{and-false}
 use Rattle.line.specs.declared.Reader.{Reader}
-use Rattle.line.specs.Serial.{awaited, sound}
+use Rattle.line.specs.Serial.{awaited, sound, soundUpTo}
 use Rattle.line.specs.Arrival.{entryThere}
 use Rattle.line.specs.Ahead.{wholeAt}
 
@@ -17,24 +17,24 @@ module _ (r : Reader) where
   -- ---- A reader that can be.
 
   pub no-room : awaited r ≤ r .filled → false ≡ sound r
-  unfolding sound
+  unfolding soundUpTo
   no-room h = simp (le-ltb _ _ h)
 
   pub over-announced : r .announced < r .applied → false ≡ sound r
-  unfolding sound
+  unfolding soundUpTo
   over-announced h = simp (lt-leb _ _ h, and-false)
 
   pub over-largest : largest < r .announced → false ≡ sound r
-  unfolding sound
+  unfolding soundUpTo
   over-largest h = simp (lt-leb _ _ h, and-false)
 
   pub over-widest : 2048 * r .applied < r .pixels → false ≡ sound r
-  unfolding sound
+  unfolding soundUpTo
   over-widest h = simp (lt-leb _ _ h, and-false)
 
   pub by-changed : r .filled < awaited r → r .applied ≤ r .announced → r .announced ≤ largest → r .pixels ≤ 2048 * r .applied
       → leb (r .changed) (r .pixels) ≡ sound r
-  unfolding sound
+  unfolding soundUpTo
   by-changed f h l p = simp (lt-ltb _ _ f, le-leb _ _ h, le-leb _ _ l, le-leb _ _ p)
 
   -- ---- An entry that lies whole in the chunk.

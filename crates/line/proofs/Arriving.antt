@@ -15,12 +15,12 @@ use Rattle.card.specs.declared.Card.{Card}
 use Rattle.card.specs.declared.Write.{Write}
 use Rattle.rules.specs.Refusal.{badLength}
 use Rattle.format.specs.Bytes.{word}
-use Rattle.format.specs.Traces.{writeAt, goodHeader}
+use Rattle.format.specs.Traces.{largest, writeAt, goodHeader}
 use Rattle.format.proofs.Tested.{headed}
 use Rattle.format.proofs.HeaderTests.{and-false}
 use Rattle.trace.specs.Run.{State, nothing, answer, apply, refuse}
 use Rattle.line.specs.declared.Reader.{Reader}
-use Rattle.line.specs.Serial.{newReader, Standing, standing, stateOf, awaited, complete, stuck, sticks, waits, opens, draws, reads, sound, chunk, chunks, joined, ended, finished}
+use Rattle.line.specs.Serial.{newReader, Standing, standing, stateOf, awaited, complete, stuck, sticks, waits, opens, draws, reads, readsUpTo, soundUpTo, chunk, chunks, joined, endedUpTo, finished, finishedUpTo}
 use Rattle.line.specs.Arrival.{breaks, entryThere, entriesArrive, arrives}
 use Rattle.line.proofs.Steps.{came, Step, stays, refuses, waiting, drawing, opening, step, byte-past, reads-stuck}
 use Rattle.line.proofs.Kept.{new-can-be, Sound, of-sound, one-applied, one-refused, draws-sound, draws-room}
@@ -28,48 +28,48 @@ use Rattle.line.proofs.Joining.{chunk-bad, chunk-reads, any-chunks}
 use Rattle.line.proofs.Units.{partly, first-pad, second-pad, header-opens, header-refused}
 use Rattle.line.proofs.Turns.{there, Whole, whole-read}
 
--- ---- The end call.
+-- ---- The end call, whatever number of entries is allowed.
 
-module _ (r : Reader) where
-  pub ended-stuck : (r .number ≡ 0 → ⊥) → ended r ≡ r
-  unfolding ended
+module _ (most : ℕ) (r : Reader) where
+  pub ended-stuck : (r .number ≡ 0 → ⊥) → endedUpTo most r ≡ r
+  unfolding endedUpTo
   ended-stuck n = simp (ne-eqb _ _ n)
 
   -- 10 where bytes are owed
-  pub ended-owed : r .number ≡ 0 → complete r ≡ false → ended r ≡ stuck 10 r
-  unfolding ended
+  pub ended-owed : r .number ≡ 0 → complete r ≡ false → endedUpTo most r ≡ stuck 10 r
+  unfolding endedUpTo
   ended-owed z m = simp (eq-eqb _ _ z, m, and-false)
 
   -- nothing changes where none is
-  pub ended-whole : sound r ≡ true → complete r ≡ true → ended r ≡ r
-  unfolding ended
+  pub ended-whole : soundUpTo most r ≡ true → complete r ≡ true → endedUpTo most r ≡ r
+  unfolding endedUpTo
   ended-whole u m = go (eqb (r .number) 0) refl
     where
-      go : (x : Bool) → eqb (r .number) 0 ≡ x → ended r ≡ r
+      go : (x : Bool) → eqb (r .number) 0 ≡ x → endedUpTo most r ≡ r
       go true e = simp (e, u, m)
       go false e = simp e
 
 -- once a number sticks, neither bytes nor the end call change anything
-stopped : (bs : List ℕ) (t : Standing) → (t .reader .number ≡ 0 → ⊥) → stateOf (finished (reads bs t)) ≡ stateOf t
-stopped bs t n =
-    ap (λ (x : Standing). stateOf (finished x)) (reads-stuck bs t n)
-    ∙ ap (λ (r : Reader). stateOf (standing r (t .card) (t .picture))) (ended-stuck (t .reader) n)
+stopped : (most : ℕ) (bs : List ℕ) (t : Standing) → (t .reader .number ≡ 0 → ⊥) → stateOf (finishedUpTo most (readsUpTo most bs t)) ≡ stateOf t
+stopped most bs t n =
+    ap (λ (x : Standing). stateOf (finishedUpTo most x)) (reads-stuck most bs t n)
+    ∙ ap (λ (r : Reader). stateOf (standing r (t .card) (t .picture))) (ended-stuck most (t .reader) n)
 
-broken : (bs : List ℕ) (t : Standing) → stateOf (finished (reads bs (sticks 10 t))) ≡ breaks (stateOf t)
-broken bs t = stopped bs (sticks 10 t) (λ z. omega (arith, z))
+pub broken : (most : ℕ) (bs : List ℕ) (t : Standing) → stateOf (finishedUpTo most (readsUpTo most bs (sticks 10 t))) ≡ breaks (stateOf t)
+broken most bs t = stopped most bs (sticks 10 t) (λ z. omega (arith, z))
 
 -- ---- Bytes that break off: fewer than are awaited.
 
 cut-off : (bs : List ℕ) (s : Standing) → s .reader .number ≡ 0 → complete (s .reader) ≡ false → s .reader .filled + length bs < awaited (s .reader)
     → stateOf (finished (reads bs s)) ≡ breaks (stateOf s)
-unfolding reads complete waits
-cut-off [] s z m h = ap (λ (r : Reader). stateOf (standing r (s .card) (s .picture))) (ended-owed (s .reader) z m)
-cut-off (b ∷ bs) s z m h = go (cut-off bs (waits (came s b) s) z m (omega (arith, h))) (step s b)
+unfolding readsUpTo complete waits
+cut-off [] s z m h = ap (λ (r : Reader). stateOf (standing r (s .card) (s .picture))) (ended-owed largest (s .reader) z m)
+cut-off (b ∷ bs) s z m h = go (cut-off bs (waits (came s b) s) z m (omega (arith, h))) (step largest s b)
   where
-    go : {t : Standing} → stateOf (finished (reads bs (waits (came s b) s))) ≡ breaks (stateOf s) → Step s b t
+    go : {t : Standing} → stateOf (finished (reads bs (waits (came s b) s))) ≡ breaks (stateOf s) → Step largest s b t
         → stateOf (finished (reads bs t)) ≡ breaks (stateOf s)
     go r (stays n) = absurd (n z)
-    go r refuses = broken bs s
+    go r refuses = broken largest bs s
     go r (waiting l) = r
     go r (drawing f o d l) = absurd (omega (arith, h, l))
     go r (opening l g) = absurd (omega (arith, h, l))
@@ -82,7 +82,7 @@ record Between (s : Standing) : Type 0 where
   opened : isSet (s .reader .opened) ≡ true
   none : s .reader .filled ≡ 0
   room : length (s .reader .waiting) ≡ 16
-  can-be : Sound (s .reader)
+  can-be : Sound largest (s .reader)
 
 -- after an entry that was applied
 between-next : (w : Write) (s : Standing) → Between s → complete (s .reader) ≡ false → answer (stateOf s) w ≡ 0 → Between (draws w s)
@@ -93,7 +93,7 @@ between-next w s h m e =
       opened = h .opened;
       none = refl;
       room = draws-room w s;
-      can-be = draws-sound w s (h .opened) m (h .can-be);
+      can-be = draws-sound largest w s (h .opened) m (h .can-be);
     }
 
 -- the state after an entry
@@ -109,7 +109,7 @@ module _ (v : List ℕ) where
   -- none is owed: the bytes end here, or one is past the total
   none-owed : (a : ℕ) (s : Standing) → Between s → s .reader .applied ≡ s .reader .announced → a ≤ length v
       → stateOf (finished (reads (drop a v) s)) ≡ entriesArrive v 0 a (stateOf s)
-  unfolding entriesArrive reads complete
+  unfolding entriesArrive readsUpTo complete
   none-owed a s h e l = go (eqb (length v) a) refl
     where
       all : complete (s .reader) ≡ true
@@ -118,16 +118,16 @@ module _ (v : List ℕ) where
       go : (x : Bool) → eqb (length v) a ≡ x → stateOf (finished (reads (drop a v) s)) ≡ cond x (stateOf s) (breaks (stateOf s))
       go true f =
           ap (λ (u : List ℕ). stateOf (finished (reads u s))) (drop-of-length-le v {i = a} (omega (arith, eqb-true (length v) a f)))
-          ∙ ap (λ (r : Reader). stateOf (standing r (s .card) (s .picture))) (ended-whole (s .reader) (of-sound _ (h .can-be)) all)
+          ∙ ap (λ (r : Reader). stateOf (standing r (s .card) (s .picture))) (ended-whole largest (s .reader) (of-sound largest _ (h .can-be)) all)
       go false f =
           ap (λ (u : List ℕ). stateOf (finished (reads u s))) (drop-cons v a 0 (omega (arith, l, eqb-false (length v) a f)))
-          ∙ ap (λ (t : Standing). stateOf (finished (reads (drop (suc a) v) t))) (byte-past s (getD v a 0) (h .free) all)
-          ∙ broken (drop (suc a) v) s
+          ∙ ap (λ (t : Standing). stateOf (finished (reads (drop (suc a) v) t))) (byte-past largest s (getD v a 0) (h .free) all)
+          ∙ broken largest (drop (suc a) v) s
 
   -- the entry is not there: it is cut off, or a pad byte is not zero
   no-entry : (a : ℕ) (s : Standing) → Between s → complete (s .reader) ≡ false → a ≤ length v → entryThere v a ≡ false
       → stateOf (finished (reads (drop a v) s)) ≡ breaks (stateOf s)
-  unfolding entryThere reads
+  unfolding entryThere readsUpTo
   no-entry a s h m l e =
       go (leb (a + 12) (length v)) (eqb (getD v (a + 2) 0) 0) (eqb (getD v (a + 3) 0) 0) refl refl refl
     where
@@ -139,15 +139,15 @@ module _ (v : List ℕ) where
       go false y z f g i = cut-off (drop a v) s (h .free) m (omega (arith, h .none, length-drop a v, leb-false (a + 12) (length v) f, twelve))
       go true false z f g i =
           ap (λ (t : Standing). stateOf (finished t))
-          (first-pad (drop a v) s (h .free) m (h .none) (h .room) (h .opened) (omega (arith, length-drop a v, leb-true (a + 12) (length v) f))
+          (first-pad largest (drop a v) s (h .free) m (h .none) (h .room) (h .opened) (omega (arith, length-drop a v, leb-true (a + 12) (length v) f))
           (λ p. eqb-false _ _ g (sym (getD-drop a v 2 0) ∙ p)))
-          ∙ broken [] (partly 2 (drop a v) s)
+          ∙ broken largest [] (partly 2 (drop a v) s)
       go true true false f g i =
           ap (λ (t : Standing). stateOf (finished t))
-          (second-pad (drop a v) s (h .free) m (h .none) (h .room) (h .opened) (omega (arith, length-drop a v, leb-true (a + 12) (length v) f))
+          (second-pad largest (drop a v) s (h .free) m (h .none) (h .room) (h .opened) (omega (arith, length-drop a v, leb-true (a + 12) (length v) f))
           (getD-drop a v 2 0 ∙ eqb-true _ _ g)
           (λ p. eqb-false _ _ i (sym (getD-drop a v 3 0) ∙ p)))
-          ∙ broken [] (partly 3 (drop a v) s)
+          ∙ broken largest [] (partly 3 (drop a v) s)
       go true true true f g i = cc (e, f, g, i)
 
   entries-arrive : (k a : ℕ) (s : Standing) → Between s → s .reader .applied + k ≡ s .reader .announced → a ≤ length v
@@ -180,7 +180,7 @@ module _ (v : List ℕ) where
       go true false f g r =
           let n = eqb-false _ _ g in
           ap (λ (t : Standing). stateOf (finished t)) (whole-read v a s (h .free) (h .room) (stands f))
-          ∙ stopped (drop (a + 12) v) (draws w s) (λ z. n (sym (ap (λ (t : State). t .number) (drawn-refused w s n)) ∙ z))
+          ∙ stopped largest (drop (a + 12) v) (draws w s) (λ z. n (sym (ap (λ (t : State). t .number) (drawn-refused w s n)) ∙ z))
           ∙ drawn-refused w s n
 
 -- ---- All bytes.
@@ -191,14 +191,14 @@ fresh c p = standing newReader c p
 
 module _ (v : List ℕ) (c : Card) (p : List ℕ) where
   all-read : stateOf (finished (reads v (fresh c p))) ≡ arrives v c p
-  unfolding arrives newReader opens complete reads
+  unfolding arrives newReader opens complete readsUpTo
   all-read = go (goodHeader v) (leb 16 (length v)) refl refl
     where
       go : (x y : Bool) → goodHeader v ≡ x → leb 16 (length v) ≡ y
           → stateOf (finished (reads v (fresh c p))) ≡ cond x (entriesArrive v (word v 0) 16 (nothing 0 c p)) (nothing 10 c p)
       go true y g f =
           let h = headed v g in
-          ap (λ (t : Standing). stateOf (finished t)) (header-opens v (fresh c p) refl refl refl refl refl (h .header) g)
+          ap (λ (t : Standing). stateOf (finished t)) (header-opens largest v (fresh c p) refl refl refl refl refl (h .header) g)
           ∙ entries-arrive v (word v 0) 16 (opens (word v 0) (fresh c p))
           (record {
             free = refl;
@@ -210,8 +210,8 @@ module _ (v : List ℕ) (c : Card) (p : List ℕ) where
           (zero-add (word v 0))
           (h .header)
       go false true g f =
-          ap (λ (t : Standing). stateOf (finished t)) (header-refused v (fresh c p) refl refl refl refl refl (leb-true _ _ f) g)
-          ∙ broken [] (partly 15 v (fresh c p))
+          ap (λ (t : Standing). stateOf (finished t)) (header-refused largest v (fresh c p) refl refl refl refl refl (leb-true _ _ f) g)
+          ∙ broken largest [] (partly 15 v (fresh c p))
       go false false g f = cut-off v (fresh c p) refl refl (omega (arith, leb-false 16 (length v) f))
 
   -- however cut: at least one chunk, of any length
@@ -220,17 +220,17 @@ module _ (v : List ℕ) (c : Card) (p : List ℕ) where
     last = chunks (bs ∷ rest) (fresh c p)
 
     as-one : last ≡ chunk v (fresh c p)
-    as-one = any-chunks bs rest (fresh c p) ∙ ap (λ (u : List ℕ). chunk u (fresh c p)) e
+    as-one = any-chunks largest bs rest (fresh c p) ∙ ap (λ (u : List ℕ). chunk u (fresh c p)) e
 
     -- the theorem
     pub arriving : badLength (length p) ≡ false → stateOf (finished last) ≡ arrives v c p
     unfolding newReader
     arriving g =
-        ap (λ (t : Standing). stateOf (finished t)) (as-one ∙ chunk-reads v (fresh c p) new-can-be g) ∙ all-read
+        ap (λ (t : Standing). stateOf (finished t)) (as-one ∙ chunk-reads largest v (fresh c p) (new-can-be largest) g) ∙ all-read
 
     -- 1 where VRAM has a forbidden length
     pub arriving-bad : badLength (length p) ≡ true → stateOf (finished last) ≡ nothing 1 c p
-    unfolding newReader reads
+    unfolding newReader readsUpTo
     arriving-bad g =
-        ap (λ (t : Standing). stateOf (finished t)) (as-one ∙ chunk-bad v (fresh c p) refl new-can-be g)
-        ∙ stopped [] (sticks 1 (fresh c p)) (λ z. omega (arith, z))
+        ap (λ (t : Standing). stateOf (finished t)) (as-one ∙ chunk-bad largest v (fresh c p) refl (new-can-be largest) g)
+        ∙ stopped largest [] (sticks 1 (fresh c p)) (λ z. omega (arith, z))

@@ -23,7 +23,7 @@ use Rattle.format.specs.Bytes.{word}
 use Rattle.format.specs.Traces.{largest, headerSize, entrySize, writeAt, writesAt, goodHeader}
 use Rattle.trace.specs.Run.{State, nothing, answer, apply, refuse, mostPixels}
 use Rattle.line.specs.declared.Reader.{Reader}
-use Rattle.line.specs.Serial.{Standing, stateOf, complete, stuck, sticks, waits, opens, draws, byte, reads, sound, chunk, chunks, joined, ended, finished}
+use Rattle.line.specs.Serial.{Standing, stateOf, complete, stuck, sticks, waits, opens, draws, byte, reads, readsUpTo, sound, chunk, chunks, chunksUpTo, joined, ended, endedUpTo, finished}
 use Rattle.line.specs.Arrival.{breaks, entryThere, entriesArrive, arrives}
 use Rattle.line.proofs.Steps.{Step, stays, refuses, waiting, drawing, opening, step}
 use Rattle.line.proofs.Kept.{by-answer, draws-size, Sound, to-sound, reads-sound}
@@ -34,24 +34,24 @@ use Rattle.line.proofs.Arriving.{fresh, ended-stuck, arriving, arriving
 -- ---- After a number, later chunks and the end call return it, and change nothing.
 
 pub after-number : (rest : List (List ℕ)) (s : Standing) → (s .reader .number ≡ 0 → ⊥) → chunks rest s ≡ s
-unfolding chunks
+unfolding chunksUpTo
 after-number [] s n = refl
-after-number (bs ∷ rest) s n = ap (chunks rest) (chunk-stuck bs s n) ∙ after-number rest s n
+after-number (bs ∷ rest) s n = ap (chunks rest) (chunk-stuck largest bs s n) ∙ after-number rest s n
 
 pub end-after-number : (s : Standing) → (s .reader .number ≡ 0 → ⊥) → finished s ≡ s
-end-after-number s n = ap (λ (r : Reader). record { reader = r; card = s .card; picture = s .picture }) (ended-stuck (s .reader) n)
+end-after-number s n = ap (λ (r : Reader). record { reader = r; card = s .card; picture = s .picture }) (ended-stuck largest (s .reader) n)
 
 -- ---- What a chunk is, whatever the reader: nothing but a number, or its bytes one after the other.
 
 by-chunk : (q : Standing → Type 0) (bs : List ℕ) (s : Standing) → q s → ((n : ℕ) → n ≤ 13 → q (sticks n s))
-    → (Sound (s .reader) → badLength (length (s .picture)) ≡ false → q (reads bs s)) → q (chunk bs s)
+    → (Sound largest (s .reader) → badLength (length (s .picture)) ≡ false → q (reads bs s)) → q (chunk bs s)
 by-chunk q bs s same number bytes = go (eqb (s .reader .number) 0) (sound (s .reader)) (badLength (length (s .picture))) refl refl refl
   where
     go : (x y z : Bool) → eqb (s .reader .number) 0 ≡ x → sound (s .reader) ≡ y → badLength (length (s .picture)) ≡ z → q (chunk bs s)
-    go false y z d e f = subst q (sym (chunk-stuck bs s (eqb-false _ _ d))) same
-    go true false z d e f = subst q (sym (chunk-unsound bs s (eqb-true _ _ d) e)) (number 10 (omega arith))
-    go true true true d e f = subst q (sym (chunk-bad bs s (eqb-true _ _ d) e f)) (number 1 (omega arith))
-    go true true false d e f = subst q (sym (chunk-reads bs s e f)) (bytes (to-sound _ e) f)
+    go false y z d e f = subst q (sym (chunk-stuck largest bs s (eqb-false _ _ d))) same
+    go true false z d e f = subst q (sym (chunk-unsound largest bs s (eqb-true _ _ d) e)) (number 10 (omega arith))
+    go true true true d e f = subst q (sym (chunk-bad largest bs s (eqb-true _ _ d) e f)) (number 1 (omega arith))
+    go true true false d e f = subst q (sym (chunk-reads largest bs s e f)) (bytes (to-sound largest _ e) f)
 
 -- ---- Demand 2: the held planes.
 
@@ -88,7 +88,7 @@ holds-draw w s =
           (λ _. refl);
     }
 
-holds-step : {s t : Standing} {b : ℕ} → Step s b t → Holds s t
+holds-step : {s t : Standing} {b : ℕ} → Step largest s b t → Holds s t
 unfolding waits opens
 holds-step {s} (stays n) = undrawn s s refl refl
 holds-step {s} refuses = undrawn s (sticks 10 s) refl refl
@@ -97,13 +97,13 @@ holds-step {s} (drawing f o m l) = holds-draw _ s
 holds-step {s} (opening l g) = undrawn s (opens _ s) refl refl
 
 holds-reads : (bs : List ℕ) (s : Standing) → Holds s (reads bs s)
-unfolding reads
+unfolding readsUpTo
 holds-reads [] s = undrawn s s refl refl
-holds-reads (b ∷ bs) s = holds-on (holds-step (step s b)) (holds-reads bs (byte s b))
+holds-reads (b ∷ bs) s = holds-on (holds-step (step largest s b)) (holds-reads bs (byte s b))
 
 -- through any list of chunks, from any reader, card and picture
 pub held-planes : (rest : List (List ℕ)) (s : Standing) → Holds s (chunks rest s)
-unfolding chunks
+unfolding chunksUpTo
 held-planes [] s = undrawn s s refl refl
 held-planes (bs ∷ rest) s =
     holds-on (by-chunk (Holds s) bs s (undrawn s s refl refl) (λ n _. undrawn s (sticks n s) refl refl) (λ _ _. holds-reads bs s)) (held-planes rest (chunk bs s))
@@ -119,7 +119,7 @@ held-from-reset planes rest v i k h l e = held-planes rest (fresh (resetCard pla
 abbrev Answered : Standing → Type 0
 Answered s = s .reader .number ≤ 13
 
-answered-step : {s t : Standing} {b : ℕ} → Answered s → Step s b t → Answered t
+answered-step : {s t : Standing} {b : ℕ} → Answered s → Step largest s b t → Answered t
 unfolding waits opens draws apply refuse
 answered-step h (stays n) = h
 answered-step h refuses = omega arith
@@ -129,18 +129,18 @@ answered-step {s} h (drawing f o m l) =
 answered-step h (opening l g) = h
 
 answered-reads : (bs : List ℕ) (s : Standing) → Answered s → Answered (reads bs s)
-unfolding reads
+unfolding readsUpTo
 answered-reads [] s h = h
-answered-reads (b ∷ bs) s h = answered-reads bs (byte s b) (answered-step h (step s b))
+answered-reads (b ∷ bs) s h = answered-reads bs (byte s b) (answered-step h (step largest s b))
 
 -- from any reader that had one
 pub every-number : (rest : List (List ℕ)) (s : Standing) → Answered s → Answered (chunks rest s)
-unfolding chunks
+unfolding chunksUpTo
 every-number [] s h = h
 every-number (bs ∷ rest) s h = every-number rest (chunk bs s) (by-chunk Answered bs s h (λ n l. l) (λ _ _. answered-reads bs s h))
 
 pub end-number : (s : Standing) → Answered s → Answered (finished s)
-unfolding ended
+unfolding endedUpTo
 end-number s h = go (eqb (s .reader .number) 0) (sound (s .reader) && complete (s .reader)) refl refl
   where
     go : (x y : Bool) → eqb (s .reader .number) 0 ≡ x → sound (s .reader) && complete (s .reader) ≡ y → Answered (finished s)
@@ -150,25 +150,25 @@ end-number s h = go (eqb (s .reader .number) 0) (sound (s .reader) && complete (
 
 -- ---- The totals.
 
-chunks-sound : (rest : List (List ℕ)) (s : Standing) → Sound (s .reader) → Sound (chunks rest s .reader)
-unfolding chunks
+chunks-sound : (rest : List (List ℕ)) (s : Standing) → Sound largest (s .reader) → Sound largest (chunks rest s .reader)
+unfolding chunksUpTo
 chunks-sound [] s h = h
 chunks-sound (bs ∷ rest) s h =
     chunks-sound rest (chunk bs s)
-    (by-chunk (λ t. Sound (t .reader)) bs s h (λ n _. record { space = h .space; within = h .within; few = h .few; total = h .total; changes = h .changes }) (λ _ _. reads-sound bs s h))
+    (by-chunk (λ t. Sound largest (t .reader)) bs s h (λ n _. record { space = h .space; within = h .within; few = h .few; total = h .total; changes = h .changes }) (λ _ _. reads-sound largest bs s h))
 
 -- at most 65,536 entries and 134,217,728 pixels, and of these at most all changed, from a new reader and from any that can be
 pub totals : (rest : List (List ℕ)) (s : Standing) → sound (s .reader) ≡ true
     → (chunks rest s .reader .applied ≤ largest) × (chunks rest s .reader .pixels ≤ mostPixels) × (chunks rest s .reader .changed ≤ chunks rest s .reader .pixels)
 totals rest s e =
-    let h = chunks-sound rest s (to-sound _ e) in
+    let h = chunks-sound rest s (to-sound largest _ e) in
     (omega (arith, h .within, h .few), omega (arith, h .within, h .few, h .total), h .changes)
 
 -- one that cannot be draws nothing
 pub cannot-be : (bs : List ℕ) (rest : List (List ℕ)) (s : Standing) → s .reader .number ≡ 0 → sound (s .reader) ≡ false
     → chunks (bs ∷ rest) s ≡ sticks 10 s
-unfolding chunks
-cannot-be bs rest s z e = ap (chunks rest) (chunk-unsound bs s z e) ∙ after-number rest (sticks 10 s) (λ n. omega (arith, n))
+unfolding chunksUpTo
+cannot-be bs rest s z e = ap (chunks rest) (chunk-unsound largest bs s z e) ∙ after-number rest (sticks 10 s) (λ n. omega (arith, n))
 
 -- ---- Demand 1: what was drawn stays.
 
@@ -206,7 +206,7 @@ module _ (v : List ℕ) where
 
 -- the end call changes no total
 ended-applied : (r : Reader) → ended r .applied ≡ r .applied
-unfolding ended
+unfolding endedUpTo
 ended-applied r = go (isSet (r .number)) (sound r && complete r)
   where
     go : (x y : Bool) → cond x r (cond y r (stuck 10 r)) .applied ≡ r .applied

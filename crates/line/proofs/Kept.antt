@@ -1,10 +1,11 @@
--- What every byte keeps: the length of the picture, the room for 16 bytes, and that the reader can be. Assumes nothing.
+-- What every byte keeps: the length of the picture, the room for 16 bytes, and that the reader can be. Whatever number of entries is allowed.
+-- Assumes nothing.
 use mathlib.Core.Path.{_≡_, refl, sym, _∙_, subst}
 use mathlib.Core.Bool.{Bool, true, false, cond}
 use mathlib.Core.List.{List, [], _∷_}
 use Prim.Native.Nat.{ℕ, _*_, _≤_, _<_}
 use native.Mathlib.Omega.{arith}
-use lib.Dec.{eqb}
+use lib.Dec.{eqb, leb}
 use lib.ListN.{length, length-set}
 use borrow.Author.Tests.{eq-eqb, ne-eqb, eqb-true, eqb-false, lt-ltb, ltb-true, le-leb, leb-true}
 use Rattle.card.specs.Registers.{isSet}
@@ -12,12 +13,12 @@ use Rattle.card.specs.declared.Write.{Write}
 use Rattle.demands.proofs.Changed.{within}
 use Rattle.demands.proofs.Counting.{count-bound}
 use Rattle.demands.proofs.Demand1.{same-length}
-use Rattle.format.specs.Traces.{largest}
+use Rattle.format.specs.Bytes.{word}
+use Rattle.format.specs.Traces.{goodHeaderUpTo}
 use Rattle.rules.proofs.Tests.{both}
-use Rattle.format.proofs.Tested.{headed}
 use Rattle.trace.specs.Run.{State, answer, apply, refuse, ran}
 use Rattle.line.specs.declared.Reader.{Reader}
-use Rattle.line.specs.Serial.{newReader, Standing, stateOf, awaited, complete, waits, opens, draws, byte, reads, sound}
+use Rattle.line.specs.Serial.{newReader, Standing, stateOf, awaited, complete, waits, opens, draws, byteUpTo, readsUpTo, soundUpTo}
 use Rattle.line.proofs.Steps.{Step, stays, refuses, waiting, drawing, opening, step}
 
 -- one entry of a run: applied where its number is 0, else refused
@@ -46,7 +47,7 @@ pub draws-size : (w : Write) (s : Standing) → size (draws w s) ≡ size s
 unfolding draws apply refuse
 draws-size w s = by-answer (λ t. length (t .picture) ≡ size s) w (stateOf s) (λ _. same-length (s .card) w (s .picture)) (λ _. refl)
 
-size-step : {s t : Standing} {b : ℕ} → Step s b t → size t ≡ size s
+size-step : {most : ℕ} {s t : Standing} {b : ℕ} → Step most s b t → size t ≡ size s
 unfolding waits opens
 size-step (stays n) = refl
 size-step refuses = refl
@@ -54,13 +55,13 @@ size-step (waiting h) = refl
 size-step {s = s} (drawing f o m h) = draws-size _ s
 size-step (opening h g) = refl
 
-pub byte-size : (s : Standing) (b : ℕ) → size (byte s b) ≡ size s
-byte-size s b = size-step (step s b)
+pub byte-size : (most : ℕ) (s : Standing) (b : ℕ) → size (byteUpTo most s b) ≡ size s
+byte-size most s b = size-step (step most s b)
 
-pub reads-size : (bs : List ℕ) (s : Standing) → size (reads bs s) ≡ size s
-unfolding reads
-reads-size [] s = refl
-reads-size (b ∷ bs) s = reads-size bs (byte s b) ∙ byte-size s b
+pub reads-size : (most : ℕ) (bs : List ℕ) (s : Standing) → size (readsUpTo most bs s) ≡ size s
+unfolding readsUpTo
+reads-size most [] s = refl
+reads-size most (b ∷ bs) s = reads-size most bs (byteUpTo most s b) ∙ byte-size most s b
 
 -- ---- The room for 16 bytes.
 
@@ -71,7 +72,7 @@ pub draws-room : (w : Write) (s : Standing) → room (draws w s) ≡ 16
 unfolding draws
 draws-room w s = refl
 
-room-step : {s t : Standing} {b : ℕ} → room s ≡ 16 → Step s b t → room t ≡ 16
+room-step : {most : ℕ} {s t : Standing} {b : ℕ} → room s ≡ 16 → Step most s b t → room t ≡ 16
 unfolding waits opens
 room-step h (stays n) = h
 room-step h refuses = h
@@ -79,47 +80,47 @@ room-step {s = s} {b = b} h (waiting l) = length-set (s .reader .waiting) (s .re
 room-step {s = s} h (drawing f o m l) = draws-room _ s
 room-step h (opening l g) = refl
 
-pub byte-room : (s : Standing) (b : ℕ) → room s ≡ 16 → room (byte s b) ≡ 16
-byte-room s b h = room-step h (step s b)
+pub byte-room : (most : ℕ) (s : Standing) (b : ℕ) → room s ≡ 16 → room (byteUpTo most s b) ≡ 16
+byte-room most s b h = room-step h (step most s b)
 
 -- ---- A reader that can be.
 
-pub record Sound (r : Reader) : Type 0 where
+pub record Sound (most : ℕ) (r : Reader) : Type 0 where
   pub space : r .filled < awaited r
   pub within : r .applied ≤ r .announced
-  pub few : r .announced ≤ largest
+  pub few : r .announced ≤ most
   pub total : r .pixels ≤ 2048 * r .applied
   pub changes : r .changed ≤ r .pixels
 
-pub to-sound : (r : Reader) → sound r ≡ true → Sound r
-unfolding sound
-to-sound r e =
+pub to-sound : (most : ℕ) (r : Reader) → soundUpTo most r ≡ true → Sound most r
+unfolding soundUpTo
+to-sound most r e =
     let (a, x) = both _ _ e in
     let (b, y) = both _ _ x in
     let (c, z) = both _ _ y in
     let (d, f) = both _ _ z in
     record { space = ltb-true _ _ a; within = leb-true _ _ b; few = leb-true _ _ c; total = leb-true _ _ d; changes = leb-true _ _ f }
 
-pub of-sound : (r : Reader) → Sound r → sound r ≡ true
-unfolding sound
-of-sound r h = rw (lt-ltb _ _ (h .space), le-leb _ _ (h .within), le-leb _ _ (h .few), le-leb _ _ (h .total), le-leb _ _ (h .changes))
+pub of-sound : (most : ℕ) (r : Reader) → Sound most r → soundUpTo most r ≡ true
+unfolding soundUpTo
+of-sound most r h = rw (lt-ltb _ _ (h .space), le-leb _ _ (h .within), le-leb _ _ (h .few), le-leb _ _ (h .total), le-leb _ _ (h .changes))
 
-new-sound : Sound newReader
+new-sound : (most : ℕ) → Sound most newReader
 unfolding newReader
-new-sound = record { space = omega arith; within = omega arith; few = omega arith; total = omega arith; changes = omega arith }
+new-sound most = record { space = omega arith; within = omega arith; few = omega arith; total = omega arith; changes = omega arith }
 
-pub new-can-be : sound newReader ≡ true
-new-can-be = of-sound newReader new-sound
+pub new-can-be : (most : ℕ) → soundUpTo most newReader ≡ true
+new-can-be most = of-sound most newReader (new-sound most)
 
 -- entries are left
 pub entries-left : (r : Reader) → isSet (r .opened) ≡ true → complete r ≡ false → r .applied ≡ r .announced → ⊥
 unfolding complete
 entries-left r o e = eqb-false _ _ (sym (rw o) ∙ e)
 
-pub draws-sound : (w : Write) (s : Standing) → isSet (s .reader .opened) ≡ true → complete (s .reader) ≡ false
-    → Sound (s .reader) → Sound (draws w s .reader)
+pub draws-sound : (most : ℕ) (w : Write) (s : Standing) → isSet (s .reader .opened) ≡ true → complete (s .reader) ≡ false
+    → Sound most (s .reader) → Sound most (draws w s .reader)
 unfolding draws apply refuse
-draws-sound w s o m h =
+draws-sound most w s o m h =
     record {
       space = awaits (isSet (s .reader .opened));
       within = by-answer (λ t. t .applied ≤ s .reader .announced) w (stateOf s) (λ _. omega (arith, h .within, entries-left (s .reader) o m)) (λ _. h .within);
@@ -134,18 +135,23 @@ draws-sound w s o m h =
     awaits true = omega arith
     awaits false = omega arith
 
-sound-step : {s t : Standing} {b : ℕ} → Sound (s .reader) → Step s b t → Sound (t .reader)
+-- a header that opens the trace announces no more than are allowed
+announces-few : (most : ℕ) (v : List ℕ) → goodHeaderUpTo most v ≡ true → word v 0 ≤ most
+unfolding goodHeaderUpTo
+announces-few most v e = let (_, r) = both (leb 16 (length v)) _ e in leb-true _ _ (both (leb (word v 0) most) _ r .0)
+
+sound-step : {most : ℕ} {s t : Standing} {b : ℕ} → Sound most (s .reader) → Step most s b t → Sound most (t .reader)
 unfolding waits opens
 sound-step h (stays n) = h
 sound-step h refuses = record { space = h .space; within = h .within; few = h .few; total = h .total; changes = h .changes }
 sound-step h (waiting l) = record { space = l; within = h .within; few = h .few; total = h .total; changes = h .changes }
-sound-step {s = s} h (drawing f o m l) = draws-sound _ s o m h
-sound-step h (opening l g) = record { space = omega arith; within = omega arith; few = headed _ g .few; total = omega arith; changes = omega arith }
+sound-step {s = s} h (drawing f o m l) = draws-sound _ _ s o m h
+sound-step h (opening l g) = record { space = omega arith; within = omega arith; few = announces-few _ _ g; total = omega arith; changes = omega arith }
 
-pub byte-sound : (s : Standing) (b : ℕ) → Sound (s .reader) → Sound (byte s b .reader)
-byte-sound s b h = sound-step h (step s b)
+pub byte-sound : (most : ℕ) (s : Standing) (b : ℕ) → Sound most (s .reader) → Sound most (byteUpTo most s b .reader)
+byte-sound most s b h = sound-step h (step most s b)
 
-pub reads-sound : (bs : List ℕ) (s : Standing) → Sound (s .reader) → Sound (reads bs s .reader)
-unfolding reads
-reads-sound [] s h = h
-reads-sound (b ∷ bs) s h = reads-sound bs (byte s b) (byte-sound s b h)
+pub reads-sound : (most : ℕ) (bs : List ℕ) (s : Standing) → Sound most (s .reader) → Sound most (readsUpTo most bs s .reader)
+unfolding readsUpTo
+reads-sound most [] s h = h
+reads-sound most (b ∷ bs) s h = reads-sound most bs (byteUpTo most s b) (byte-sound most s b h)

@@ -9,4 +9,5 @@ pub mod Arriving
 pub mod Rules
 pub mod Accepted
 pub mod Demands
+pub mod Raised
 pub mod Samples

@@ -12,11 +12,11 @@ use lib.Seq.{drop-cons, drop-drop, getD-drop}
 use borrow.Author.Tests.{eqb-true, leb-true, not-true}
 use Rattle.card.specs.Registers.{isSet}
 use Rattle.card.specs.declared.Write.{Write}
-use Rattle.format.specs.Traces.{writeAt}
+use Rattle.format.specs.Traces.{largest, writeAt}
 use Rattle.rules.proofs.Tests.{both}
 use Rattle.format.proofs.Decoding.{writeAt-drop}
 use Rattle.line.specs.declared.Reader.{Reader}
-use Rattle.line.specs.Serial.{Standing, complete, draws, byte, reads, sound}
+use Rattle.line.specs.Serial.{Standing, complete, draws, byte, reads, readsUpTo, sound}
 use Rattle.line.specs.Arrival.{entryThere}
 use Rattle.line.specs.Ahead.{wholeAt}
 use Rattle.line.proofs.Steps.{reads-stuck}
@@ -54,7 +54,7 @@ whole r v a e =
 pub whole-read : (v : List ℕ) (a : ℕ) (s : Standing) → s .reader .number ≡ 0 → length (s .reader .waiting) ≡ 16 → Whole (s .reader) v a
     → reads (drop a v) s ≡ reads (drop (a + 12) v) (draws (writeAt v a) s)
 whole-read v a s z room w =
-    entry-drawn (drop a v) s z (w .more) (w .none) room (w .opened) (omega (arith, length-drop a v, w .stands .long)) (pad 2 (w .stands .first)) (pad 3 (w .stands .second))
+    entry-drawn largest (drop a v) s z (w .more) (w .none) room (w .opened) (omega (arith, length-drop a v, w .stands .long)) (pad 2 (w .stands .first)) (pad 3 (w .stands .second))
     ∙ ap (λ (u : List ℕ). reads u (draws (writeAt (drop a v) 0) s)) (drop-drop 12 a v)
     ∙ ap (λ (x : Write). reads (drop (a + 12) v) (draws x s)) (writeAt-drop a v 0 ∙ ap (writeAt v) (add-zero a))
   where
@@ -75,21 +75,21 @@ begins v s e h = record { within = omega arith; can-be = e; room = h; size = ref
 module _ {v : List ℕ} {a : ℕ} {s₀ s : Standing} (g : Going v a s₀ s) where
   -- the loop ends at the end of the chunk, or where a number sticks
   pub at-end : length v ≤ a → s ≡ reads v s₀
-  unfolding reads
+  unfolding readsUpTo
   at-end h = ap (λ (u : List ℕ). reads u s) (sym (drop-of-length-le v {i = a} h)) ∙ g .left
 
   pub at-number : (s .reader .number ≡ 0 → ⊥) → s ≡ reads v s₀
-  at-number n = sym (reads-stuck (drop a v) s n) ∙ g .left
+  at-number n = sym (reads-stuck largest (drop a v) s n) ∙ g .left
 
   -- one byte
   pub turn-byte : a < length v → {t : Standing} → t ≡ byte s (getD v a 0) → Going v (a + 1) s₀ t
-  unfolding reads
+  unfolding readsUpTo
   turn-byte h {t} e =
       record {
         within = omega arith;
-        can-be = ap (λ (x : Standing). sound (x .reader)) e ∙ of-sound _ (byte-sound s (getD v a 0) (to-sound _ (g .can-be)));
-        room = ap (λ (x : Standing). length (x .reader .waiting)) e ∙ byte-room s (getD v a 0) (g .room);
-        size = ap (λ (x : Standing). length (x .picture)) e ∙ byte-size s (getD v a 0) ∙ g .size;
+        can-be = ap (λ (x : Standing). sound (x .reader)) e ∙ of-sound largest _ (byte-sound largest s (getD v a 0) (to-sound largest _ (g .can-be)));
+        room = ap (λ (x : Standing). length (x .reader .waiting)) e ∙ byte-room largest s (getD v a 0) (g .room);
+        size = ap (λ (x : Standing). length (x .picture)) e ∙ byte-size largest s (getD v a 0) ∙ g .size;
         left = next;
       }
     where
@@ -108,7 +108,7 @@ module _ {v : List ℕ} {a : ℕ} {s₀ s : Standing} (g : Going v a s₀ s) whe
   turn-entry z w {t} e =
       record {
         within = w .stands .long;
-        can-be = ap (λ (x : Standing). sound (x .reader)) e ∙ of-sound _ (draws-sound (writeAt v a) s (w .opened) (w .more) (to-sound _ (g .can-be)));
+        can-be = ap (λ (x : Standing). sound (x .reader)) e ∙ of-sound largest _ (draws-sound largest (writeAt v a) s (w .opened) (w .more) (to-sound largest _ (g .can-be)));
         room = ap (λ (x : Standing). length (x .reader .waiting)) e ∙ draws-room (writeAt v a) s;
         size = ap (λ (x : Standing). length (x .picture)) e ∙ draws-size (writeAt v a) s ∙ g .size;
         left = ap (reads (drop (a + 12) v)) e ∙ sym (whole-read v a s z (g .room) w) ∙ g .left;

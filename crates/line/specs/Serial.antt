@@ -10,7 +10,7 @@ use Rattle.card.specs.declared.Card.{Card}
 use Rattle.card.specs.declared.Write.{Write}
 use Rattle.rules.specs.Refusal.{badLength}
 use Rattle.format.specs.Bytes.{word}
-use Rattle.format.specs.Traces.{headerSize, entrySize, largest, writeAt, goodHeader}
+use Rattle.format.specs.Traces.{headerSize, entrySize, largest, writeAt, goodHeaderUpTo}
 use Rattle.trace.specs.Run.{State, ran}
 use Rattle.line.specs.declared.Reader.{Reader}
 
@@ -114,50 +114,76 @@ counted t r =
 unfoldable pub draws : Write → Standing → Standing
 draws w s = let t = ran (w ∷ []) 1 (stateOf s) in standing (counted t (s .reader)) (t .card) (t .picture)
 
--- what one byte does: nothing where a number sticks; 10 past the total and for a bad pad byte; what is unfinished waits; a whole entry is
--- drawn; a whole header opens the trace, or answers 10
-unfoldable pub byte : Standing → ℕ → Standing
-byte s b =
-    let r = s .reader in
-    let came = set (r .waiting) (r .filled) b in
-    cond (isSet (r .number)) s
-    (cond (complete r || badPad r b) (sticks 10 s)
-    (cond (ltb (r .filled + 1) (awaited r)) (waits came s)
-    (cond (isSet (r .opened)) (draws (writeAt came 0) s)
-    (cond (goodHeader came) (opens (word came 0) s) (sticks 10 s)))))
-
--- the bytes of a chunk, one after the other
-unfoldable pub reads : List ℕ → Standing → Standing
-reads [] s = s
-reads (b ∷ bs) s = reads bs (byte s b)
-
--- a reader that can be: fewer bytes wait than are awaited, and its totals are those of so many entries, of at most 2,048 pixels each, and no more changed than counted.
--- One put together by hand need not be such
-unfoldable pub sound : Reader → Bool
-sound r =
-    ltb (r .filled) (awaited r)
-    && (leb (r .applied) (r .announced)
-    && (leb (r .announced) largest && (leb (r .pixels) (2048 * r .applied) && leb (r .changed) (r .pixels))))
-
--- a chunk. A number that sticks comes before all; then 10 where the reader cannot be, and 1, before any byte is read
-unfoldable pub chunk : List ℕ → Standing → Standing
-chunk bs s =
-    cond (isSet (s .reader .number)) s
-    (cond (sound (s .reader)) (cond (badLength (length (s .picture))) (sticks 1 s) (reads bs s)) (sticks 10 s))
-
 -- the bytes of several chunks as one
 unfoldable pub joined : List (List ℕ) → List ℕ
 joined [] = []
 joined (bs ∷ rest) = bs ++ joined rest
 
--- chunk after chunk
-unfoldable pub chunks : List (List ℕ) → Standing → Standing
-chunks [] s = s
-chunks (bs ∷ rest) s = chunks rest (chunk bs s)
+-- ---- Where at most so many entries are allowed, whatever the number.
 
--- the end call: 10 where bytes are owed
-unfoldable pub ended : Reader → Reader
-ended r = cond (isSet (r .number)) r (cond (sound r && complete r) r (stuck 10 r))
+module _ (most : ℕ) where
+  -- what one byte does: nothing where a number sticks; 10 past the total and for a bad pad byte; what is unfinished waits; a whole entry is
+  -- drawn; a whole header opens the trace, or answers 10
+  unfoldable pub byteUpTo : Standing → ℕ → Standing
+  byteUpTo s b =
+      let r = s .reader in
+      let came = set (r .waiting) (r .filled) b in
+      cond (isSet (r .number)) s
+      (cond (complete r || badPad r b) (sticks 10 s)
+      (cond (ltb (r .filled + 1) (awaited r)) (waits came s)
+      (cond (isSet (r .opened)) (draws (writeAt came 0) s)
+      (cond (goodHeaderUpTo most came) (opens (word came 0) s) (sticks 10 s)))))
+
+  -- the bytes of a chunk, one after the other
+  unfoldable pub readsUpTo : List ℕ → Standing → Standing
+  readsUpTo [] s = s
+  readsUpTo (b ∷ bs) s = readsUpTo bs (byteUpTo s b)
+
+  -- a reader that can be: fewer bytes wait than are awaited, and its totals are those of so many entries, of at most 2,048 pixels each, and no more changed than counted.
+  -- One put together by hand need not be such
+  unfoldable pub soundUpTo : Reader → Bool
+  soundUpTo r =
+      ltb (r .filled) (awaited r)
+      && (leb (r .applied) (r .announced)
+      && (leb (r .announced) most && (leb (r .pixels) (2048 * r .applied) && leb (r .changed) (r .pixels))))
+
+  -- a chunk. A number that sticks comes before all; then 10 where the reader cannot be, and 1, before any byte is read
+  unfoldable pub chunkUpTo : List ℕ → Standing → Standing
+  chunkUpTo bs s =
+      cond (isSet (s .reader .number)) s
+      (cond (soundUpTo (s .reader)) (cond (badLength (length (s .picture))) (sticks 1 s) (readsUpTo bs s)) (sticks 10 s))
+
+  -- chunk after chunk
+  unfoldable pub chunksUpTo : List (List ℕ) → Standing → Standing
+  chunksUpTo [] s = s
+  chunksUpTo (bs ∷ rest) s = chunksUpTo rest (chunkUpTo bs s)
+
+  -- the end call: 10 where bytes are owed
+  unfoldable pub endedUpTo : Reader → Reader
+  endedUpTo r = cond (isSet (r .number)) r (cond (soundUpTo r && complete r) r (stuck 10 r))
+
+  abbrev pub finishedUpTo : Standing → Standing
+  finishedUpTo s = standing (endedUpTo (s .reader)) (s .card) (s .picture)
+
+-- ---- The same at the largest number.
+
+abbrev pub byte : Standing → ℕ → Standing
+byte = byteUpTo largest
+
+abbrev pub reads : List ℕ → Standing → Standing
+reads = readsUpTo largest
+
+abbrev pub sound : Reader → Bool
+sound = soundUpTo largest
+
+abbrev pub chunk : List ℕ → Standing → Standing
+chunk = chunkUpTo largest
+
+abbrev pub chunks : List (List ℕ) → Standing → Standing
+chunks = chunksUpTo largest
+
+abbrev pub ended : Reader → Reader
+ended = endedUpTo largest
 
 abbrev pub finished : Standing → Standing
-finished s = standing (ended (s .reader)) (s .card) (s .picture)
+finished = finishedUpTo largest

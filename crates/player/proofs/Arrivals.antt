@@ -12,11 +12,11 @@ use borrow.Author.Tests.{le-leb, lt-leb, leb-true}
 use Rattle.card.specs.declared.Card.{Card}
 use Rattle.card.specs.Reset.{resetCard}
 use Rattle.format.specs.Bytes.{wordAt}
-use Rattle.format.specs.Traces.{goodHeader, isTrace, entryCount, checkNumber, checkNumberUpTo, checkPart, checkPartUpTo, checkLength, checkLengthUpTo}
+use Rattle.format.specs.Traces.{largest, goodHeader, isTrace, entryCount, checkNumber, checkNumberUpTo, checkPart, checkPartUpTo, checkLength, checkLengthUpTo}
 use Rattle.format.proofs.Inside.{word-inside}
 use Rattle.format.proofs.Tested.{headed, formed, traced}
 use Rattle.trace.specs.Run.{State}
-use Rattle.line.specs.Serial.{newReader, Standing, standing, stateOf, chunk, chunks, joined, finished}
+use Rattle.line.specs.Serial.{newReader, Standing, standing, stateOf, chunk, chunksUpTo, joined, finished}
 use Rattle.line.specs.declared.Reader.{Reader}
 use Rattle.line.proofs.Joining.{two-chunks}
 use Rattle.line.proofs.Units.{header-front, word-front}
@@ -61,7 +61,7 @@ abbrev size : Standing → ℕ
 size s = length (s .picture)
 
 chunk-size : (bs : List ℕ) (s : Standing) → size (chunk bs s) ≡ size s
-unfolding chunks
+unfolding chunksUpTo
 chunk-size bs s = held-planes (bs ∷ []) s .size
 
 -- as many bytes as are fed: n, or none
@@ -98,7 +98,7 @@ module _ (xs ys : List ℕ) (s : Standing) (m : ℕ) (h : m ≤ size s) where
       ap₂ (λ (u w : List ℕ). let e = chunk ys (standing (t .reader) (t .card) u) in standing (e .reader) (e .card) (e .picture ++ w))
       (take-at (t .picture) past m fills)
       (drop-at (t .picture) past m fills)
-      ∙ ap (λ (e : Standing). standing (e .reader) (e .card) (e .picture ++ past)) (two-chunks xs ys start)
+      ∙ ap (λ (e : Standing). standing (e .reader) (e .card) (e .picture ++ past)) (two-chunks largest xs ys start)
 
 two-feeds : (n : ℕ) (xs ys : List ℕ) (s : Standing) → fed n ys (fed n xs s) ≡ fed n (xs ++ ys) s
 unfolding fed
@@ -132,7 +132,7 @@ module _ (v : List ℕ) (held : ℕ) (p : List ℕ) (trace : isTrace v ≡ true)
   few = let part : checkPart v ≡ drop 16 v = simp trace in omega (arith, ap entryCount part, formed _ (traced v trace .entries) .few)
 
   runs : stateOf (finished (chunk v (begun (take n p)))) ≡ whole v held p
-  unfolding chunks joined
+  unfolding chunksUpTo joined
   runs = one-whole-run v (resetCard held) (take n p) v [] (append-nil v) (2 ^ 32 - 1) trace few
 
   abbrev answered : State → Played

@@ -3,26 +3,27 @@ use mathlib.Core.Path.{sym}
 use borrow.Author.Needs.{needs}
 use borrow.Author.Tests.{eq-eqb, not-true, not-false}
 use Rattle.rules.proofs.Tests.{said}
-use Rattle.line.specs.Serial.{complete, ended}
+use Rattle.format.specs.Traces.{largest}
+use Rattle.line.specs.Serial.{complete, endedUpTo}
 use Rattle.line.proofs.Arriving.{ended-stuck}
 use Rattle.readers.proofs.end.Statement.{statement}
 use Rattle.readers.proofs.end.Tie as tie
 
 returns : tie.Need-returns
-returns c = sym (ended-stuck _ (c .if1 .taken))
+returns c = sym (ended-stuck largest _ (c .if1 .taken))
 
 sound-requires : tie.Need-sound-requires
 sound-requires c κs = search needs
 
 returns-2 : tie.Need-returns-2
-unfolding ended
+unfolding endedUpTo
 returns-2 c = simp (eq-eqb _ _ (c .before .before .if1 .left), said (c .before .sound .ensures) (not-true _ (c .if2 .taken)))
 
 complete-requires : tie.Need-complete-requires
 complete-requires c κs = search needs
 
 returns-3 : tie.Need-returns-3
-unfolding ended complete
+unfolding endedUpTo complete
 returns-3 c =
     simp (
       eq-eqb _ _ (c .before .before .before .before .if1 .left),
@@ -31,7 +32,7 @@ returns-3 c =
     )
 
 returns-4 : tie.Need-returns-4
-unfolding ended complete
+unfolding endedUpTo complete
 returns-4 c =
     simp (
       eq-eqb _ _ (c .before .before .before .before .if1 .left),

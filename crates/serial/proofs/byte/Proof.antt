@@ -8,6 +8,7 @@ use borrow.Author.Tests.{ne-eqb, eq-eqb}
 use Rattle.rules.proofs.Tests.{said}
 use Rattle.card.specs.declared.Write.{Write}
 use Rattle.card.specs.Registers.{isSet}
+use Rattle.format.specs.Traces.{largest}
 use Rattle.line.specs.declared.Reader.{Reader}
 use Rattle.line.specs.Serial.{standing, awaited, complete, badPad, waits, draws, sound}
 use Rattle.line.proofs.Steps.{byte-past, byte-pad, byte-waits, byte-draws, byte-judges}
@@ -17,7 +18,7 @@ use Rattle.serial.proofs.byte.Tie as tie
 
 -- fewer bytes wait than there is room for
 few : (r : Reader) → sound r ≡ true → r .filled < 16
-few r s = go (isSet (r .opened)) (to-sound r s .space)
+few r s = go (isSet (r .opened)) (to-sound largest r s .space)
   where
     go : (x : Bool) → r .filled < cond x 12 16 → r .filled < 16
     go true h = omega arith
@@ -28,7 +29,7 @@ complete-requires c κs = search needs
 
 returns : tie.Need-returns
 unfolding complete
-returns c = sym (byte-past _ _ (c .before .before .before .pre .0) (said (c .before .complete .ensures) (c .if1 .taken)))
+returns c = sym (byte-past largest _ _ (c .before .before .before .pre .0) (said (c .before .complete .ensures) (c .if1 .taken)))
 
 bad-pad-requires : tie.Need-bad-pad-requires
 bad-pad-requires c κs = search needs
@@ -40,7 +41,7 @@ owed c = said (c .before .complete .ensures) (c .if1 .left)
 
 returns-2 : tie.Need-returns-2
 unfolding badPad
-returns-2 c = sym (byte-pad _ _ (c .before .before .before .before .before .pre .0) (owed (c .before .before)) (said (c .before .bad-pad .ensures) (c .if2 .taken)))
+returns-2 c = sym (byte-pad largest _ _ (c .before .before .before .before .before .pre .0) (owed (c .before .before)) (said (c .before .bad-pad .ensures) (c .if2 .taken)))
 
 clear : (c : tie.Else2) → badPad (c .before .before .before .before .before .args .r) (c .before .before .before .before .before .args .b) ≡ false
 unfolding badPad
@@ -66,7 +67,7 @@ unfolding waits
 returns-3 c =
     let pad-test = c .before .before .before .before .before .before in
     sym
-    (byte-waits _ _ (pad-test .before .before .before .before .before .pre .0) (owed (pad-test .before .before)) (clear pad-test)
+    (byte-waits largest _ _ (pad-test .before .before .before .before .before .pre .0) (owed (pad-test .before .before)) (clear pad-test)
     (omega (arith, c .before .before .awaited .ensures, c .before .if3 .taken)))
 
 -- as many bytes have come as are awaited
@@ -83,7 +84,7 @@ returns-4 c =
     let start = pad-test .before .before .before .before .before in
     ap (λ (n : Reader). standing n (start .args .card) (start .args .vram .now)) (c .opening .ensures)
     ∙ sym
-    (byte-judges _ _ (start .pre .0) (owed (pad-test .before .before)) (clear pad-test) (whole whole-test) (ap not (eq-eqb _ _ (c .before .if4 .taken))))
+    (byte-judges largest _ _ (start .pre .0) (owed (pad-test .before .before)) (clear pad-test) (whole whole-test) (ap not (eq-eqb _ _ (c .before .if4 .taken))))
 
 entry-of-requires : tie.Need-entry-of-requires
 entry-of-requires c κs = search needs
@@ -105,7 +106,7 @@ returns-5 c =
     c .before .before .draw .ensures
     ∙ ap (λ (w : Write). draws w (standing (start .args .r) (start .args .card) (start .args .vram .now))) (c .before .before .before .before .entry-of .ensures)
     ∙ sym
-    (byte-draws _ _ (start .pre .0) (owed (pad-test .before .before)) (clear pad-test) (whole whole-test) (ap not (ne-eqb _ _ (c .before .before .before .before .before .if4 .left))))
+    (byte-draws largest _ _ (start .pre .0) (owed (pad-test .before .before)) (clear pad-test) (whole whole-test) (ap not (ne-eqb _ _ (c .before .before .before .before .before .if4 .left))))
 
 pub byte-spec : {M : Type 1} → statement M
 byte-spec =

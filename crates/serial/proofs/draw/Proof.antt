@@ -26,7 +26,7 @@ returns : tie.Need-returns
 returns c = drew-refused _ _ _ _ (c .before .before .before .write .ensures) (c .if1 .taken)
 
 room : (r : Reader) → sound r ≡ true → isSet (r .opened) ≡ true → complete r ≡ false → r .applied < largest
-room r s o m = let h = to-sound r s in omega (arith, h .within, h .few, entries-left r o m)
+room r s o m = let h = to-sound largest r s in omega (arith, h .within, h .few, entries-left r o m)
 
 add-t14 : tie.Need-add-t14
 add-t14 c = let (_, s, o, m) = c .before .before .before .before .before .before .before .pre in omega (arith, room _ s o m)
@@ -38,7 +38,7 @@ add-t15 c =
     omega (
       arith,
       room _ s o m,
-      to-sound _ s .total,
+      to-sound largest _ s .total,
       c .before .before .before .before .before .before .write .ensures .counts,
       count-bound (start .args .card) (start .args .w) (length (start .args .vram .now)),
     )
@@ -50,8 +50,8 @@ add-t16 c =
     omega (
       arith,
       room _ s o m,
-      to-sound _ s .total,
-      to-sound _ s .changes,
+      to-sound largest _ s .total,
+      to-sound largest _ s .changes,
       c .before .before .before .before .before .before .before .before .write .ensures .changes,
       within (start .args .card) (start .args .w) (start .args .vram .now),
       count-bound (start .args .card) (start .args .w) (length (start .args .vram .now)),
