@@ -78,6 +78,15 @@ word() {
     done
 }
 
+# A trace of N times one simple write, for a VRAM of 64 bytes.
+simple_writes() {
+    word "$1"
+    word 16
+    word 64
+    word $((16 + 12 * $1))
+    head -c $((12 * $1)) "$room/entries"
+}
+
 # The trace of the first N entries of the one in the file, for the same VRAM.
 first_entries() {
     word "$1"
@@ -137,8 +146,27 @@ error_is 'WIDTH is not 0' "$tests/cases/l8-000.trace" "$room/none.pgm" 0
 error_is 'WIDTH is a decimal number' "$tests/cases/l8-000.trace" "$room/none.pgm" wide
 error_is 'HELD is two hexadecimal digits' "$tests/cases/l8-000.trace" "$room/none.pgm" 8 zz
 error_is 'usage' "$tests/cases/l8-000.trace" "$room/none.pgm" 8 00 more
-head -c 60000 /dev/zero >"$room/large.trace"
+head -c 786449 /dev/zero >"$room/large.trace"
 error_is 'larger than the limit' "$room/large.trace" "$room/none.pgm"
+
+# the largest number of entries, and one more: from a file it is more than replay reads, arriving it gets 10 at its header
+printf '\000\017\000\000\000\000\000\000\021\042\063\104' >"$room/entries"
+for _ in 1 2 3 4 5 6 7 8 9 10 11 12 13 14 15 16 17; do
+    cat "$room/entries" "$room/entries" >"$room/twice"
+    mv "$room/twice" "$room/entries"
+done
+for entries in 4096 4097 65535 65536; do
+    simple_writes "$entries" >"$room/long.trace"
+    status "$room/long.trace" "$room/long.pgm" 8
+    [ "$got" -eq 0 ] || wrong "$entries entries: exit status $got, not 0"
+    printf 'number 0\nentries %s\npixels %s\nvram 64\nchanged 4\n' "$entries" $((4 * entries)) | cmp -s - "$room/out" ||
+        wrong "$entries entries: it said $(cat "$room/out")"
+    passed=$((passed + 1))
+    arrives_as long 8 cat "$room/long.trace"
+done
+simple_writes 65537 >"$room/longer.trace"
+error_is 'larger than the limit' "$room/longer.trace" "$room/none.pgm"
+breaks_as '65,537 entries' 0 0 0 0 8 cat "$room/longer.trace"
 
 # a damaged trace answers 10 and leaves no picture
 head -c 100 "$tests/cases/l8-000.trace" >"$room/cut.trace"

@@ -3,7 +3,7 @@
 use crate::generate::Maker;
 use crate::listed::mode;
 use crate::listed::{BRESENHAM_1, BRESENHAM_2, BRESENHAM_3, CONTINUE};
-use crate::model::trace::{self, ENTRY, HEADER};
+use crate::model::trace::{self, ENTRY, HEADER, MOST_ENTRIES};
 use crate::model::{self, refusal, Card, Write, REGISTER};
 
 /// Of the refused writes that come up one in so many is taken into a trace, so that runs are long.
@@ -133,12 +133,13 @@ fn flip(maker: &mut Maker, bytes: &mut [u8], upto: usize) {
 
 /// A false count, with a total that would match it if the sum were taken modulo 2^32.
 fn counted(maker: &mut Maker, bytes: &mut [u8]) {
-    let count = match maker.random.below(4) {
+    let count = match maker.random.below(5) {
         0 => maker.random.word(),
         1 => 0xFFFF_FFFF - maker.random.below(4) as u32,
         // Twelve times this count is the true size again, modulo 2^32.
         2 => (((bytes.len() - HEADER) / ENTRY) as u32).wrapping_add(1 << 30),
-        _ => 4096 + maker.random.below(2) as u32,
+        3 => 4096 + maker.random.below(2) as u32,
+        _ => MOST_ENTRIES as u32 + maker.random.below(2) as u32,
     };
     let total = count.wrapping_mul(12).wrapping_add(16);
     bytes[0..4].copy_from_slice(&count.to_le_bytes());

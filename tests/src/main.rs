@@ -1,4 +1,4 @@
-//! `model`: the reference model alone, on the scope paper's samples, the recorded traces, the sample trace and a textbook's lines, and
+//! `model`: the reference model alone, on the scope paper's samples, the limits of traces, the recorded traces, the sample trace and a textbook's lines, and
 //! the plain implementation against it.
 //! `sample FILE`: writes the sample trace.
 //! `compare [SEED [FIRST [LAST]]]`: the model against the engine (feature `engine`), on numbered random cases: all of them, the
@@ -17,6 +17,7 @@ mod damage;
 mod engine;
 mod fast;
 mod generate;
+mod limits;
 mod lines;
 mod listed;
 mod model;
@@ -54,6 +55,10 @@ fn check_model() -> Result<(), String> {
     println!(
         "register and read-back rows on the model: {}",
         tables::check_all()?
+    );
+    println!(
+        "traces at the limits on the model: {}",
+        limits::check_all(&limits::MODEL)?
     );
     println!(
         "recorded traces on the model, every byte: {}",

@@ -11,5 +11,7 @@ pub const OFFSET: u32 = HEADER as u32;
 
 pub const STEP: u32 = ENTRY as u32;
 
-// The largest number of entries.
+// The largest number of entries, and the bytes of a trace that has so many.
 pub const LARGEST: usize = 65536;
+
+pub const LONGEST: usize = HEADER + ENTRY * LARGEST;

@@ -1,4 +1,7 @@
-// The scope paper's "Run as tests": the longest VRAM and one step past it, and the longest fill at the end of VRAM and past it.
+// The scope paper's "Run as tests": the longest VRAM and one step past it, and the longest fill at the end of VRAM and past it. And change request 6:
+// the longest trace, and one entry more.
+mod traces;
+
 use card::Card;
 use card::Write;
 use libc::STDOUT_FILENO;
@@ -19,7 +22,19 @@ fn register(card: Card, offset: u32, data: u32) -> Card {
     a.card
 }
 
-// Of what a frame write answers, number and count, on a line of their own.
+// A number and a count of something, on a line of their own.
+pub(crate) fn line(what: &[u8], number: u32, name: &[u8], count: u64) {
+    io::write_all(STDOUT_FILENO, what);
+    io::write_all(STDOUT_FILENO, b": number ");
+    io::print_decimal(STDOUT_FILENO, number as u64);
+    io::write_all(STDOUT_FILENO, b", ");
+    io::write_all(STDOUT_FILENO, name);
+    io::write_all(STDOUT_FILENO, b" ");
+    io::print_decimal(STDOUT_FILENO, count);
+    io::write_all(STDOUT_FILENO, b"\n");
+}
+
+// What a frame write answers.
 fn says(what: &[u8], card: Card, address: u32, data: u32, vram: &mut [u8]) {
     let w = Write {
         space: 0,
@@ -28,12 +43,7 @@ fn says(what: &[u8], card: Card, address: u32, data: u32, vram: &mut [u8]) {
         data,
     };
     let a = engine::write(card, w, vram);
-    io::write_all(STDOUT_FILENO, what);
-    io::write_all(STDOUT_FILENO, b": number ");
-    io::print_decimal(STDOUT_FILENO, a.number as u64);
-    io::write_all(STDOUT_FILENO, b", count ");
-    io::print_decimal(STDOUT_FILENO, a.tally.enabled as u64);
-    io::write_all(STDOUT_FILENO, b"\n");
+    line(what, a.number, b"count", a.tally.enabled as u64);
 }
 
 fn longest(vram: &mut [u8; 2097152]) {
@@ -99,4 +109,5 @@ fn main() {
     lent_longest();
     lent_too_long();
     fills();
+    traces::limits();
 }

@@ -4,6 +4,7 @@
 mod arriving;
 
 use bounds::LARGEST_VRAM;
+use format::LONGEST;
 use libc::STDERR_FILENO;
 use libc::STDIN_FILENO;
 use libc::STDOUT_FILENO;
@@ -91,14 +92,25 @@ fn tell(p: Played, width: usize, vram: &[u8]) {
 }
 
 // The trace in the file, whole.
-fn run_file(file: i32, width: usize, held: u8, vram: &mut [u8]) {
-    let mut bytes = io::large_buffer();
-    let n = io::read_full(file, &mut bytes);
-    if format::HEADER + format::ENTRY * format::LARGEST < n {
+fn run_file(file: i32, width: usize, held: u8, bytes: &mut [u8], vram: &mut [u8]) {
+    let n = io::read_full(file, bytes);
+    if LONGEST < n {
         complain(b"the trace is larger than the limit");
         return;
     }
     tell(player::play(&bytes[..n], held, vram), width, vram);
+}
+
+// A byte more than the longest trace has, so that a longer file is told from it.
+const ROOM: usize = LONGEST + 1;
+
+fn run_read(file: i32, width: usize, held: u8, bytes: &mut [u8; ROOM], vram: &mut [u8]) {
+    run_file(file, width, held, bytes, vram);
+}
+
+fn run_whole(file: i32, width: usize, held: u8, vram: &mut [u8]) {
+    let mut bytes = [0u8; ROOM];
+    run_read(file, width, held, &mut bytes, vram);
 }
 
 // The trace on standard input, as it arrives.
@@ -110,7 +122,7 @@ fn run(arrives: bool, file: i32, width: usize, held: u8, vram: &mut [u8; LARGEST
     if arrives {
         run_arriving(file, width, held, vram);
     } else {
-        run_file(file, width, held, vram);
+        run_whole(file, width, held, vram);
     }
 }
 

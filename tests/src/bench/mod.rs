@@ -3,6 +3,7 @@
 
 mod font;
 mod library;
+mod longer;
 mod rows;
 mod side;
 mod table;
@@ -44,7 +45,7 @@ pub fn bench() -> Result<(), String> {
     for (row, way) in traces::rows() {
         table.print_row(&row, &traces::measure(&row, way)?);
     }
-    Ok(())
+    longer::print()
 }
 
 fn print_texts(table: &Table) -> Result<(), String> {

@@ -1,9 +1,10 @@
 //! Counts the calls on traces by the number they answered.
 
 /// Each call, with the numbers that it must have given.
-const CALLS: [(&str, &[u32]); 4] = [
+const CALLS: [(&str, &[u32]); 5] = [
     ("start", &[0, 1, 11]),
     ("append", &[0, 2, 10, 11]),
+    ("extend", &[0, 2, 10, 11]),
     ("check", &[0, 10]),
     ("run", &[0, 1, 2, 3, 4, 5, 6, 7, 8, 9, 10, 12, 13]),
 ];
@@ -12,16 +13,17 @@ const CALLS: [(&str, &[u32]); 4] = [
 pub enum Call {
     Start,
     Append,
+    Extend,
     Check,
     Run,
 }
 
 /// For each call, how often it gave each number.
-pub struct Calls([[u64; 14]; 4]);
+pub struct Calls([[u64; 14]; 5]);
 
 impl Calls {
     pub fn new() -> Calls {
-        Calls([[0; 14]; 4])
+        Calls([[0; 14]; 5])
     }
 
     pub fn add(&mut self, call: Call, number: u32) {

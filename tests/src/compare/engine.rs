@@ -1,4 +1,4 @@
-//! The engine against the model: the recorded traces, samples by hand and a textbook's lines, then numbered cases of writes of every kind, of opaque
+//! The engine against the model: the recorded traces, samples by hand, the limits of traces and a textbook's lines, then numbered cases of writes of every kind, of opaque
 //! stipples, of traces, of calipers, of serial lines and of waveform lines.
 
 use super::calls::Calls;
@@ -8,7 +8,9 @@ use super::{CASES, FIRST_CALIPER, FIRST_LINES, FIRST_SERIAL, WRITE_CASES};
 use crate::coverage::Coverage;
 use crate::engine;
 use crate::generate::Maker;
+use crate::limits;
 use crate::lines;
+use crate::model;
 use crate::random::Random;
 use crate::recorded;
 use crate::samples;
@@ -18,12 +20,27 @@ pub(super) const ENGINE: Other = Other {
     write: engine::write,
 };
 
+const CALLS: limits::Calls = limits::Calls {
+    append: engine::append,
+    extend: Some(engine::extend),
+    check: engine::check,
+    run: engine::run,
+    write: engine::write,
+    arrives: |bytes| {
+        let mut reader = engine::reader::Reader::new();
+        let number = reader.chunk(bytes, &mut model::reset(0), &mut [0; 64]);
+        (number, reader.applied)
+    },
+};
+
 /// Runs the cases from first to last; coverage is judged only where all of them ran.
 pub fn compare(seed: u64, first: u64, last: u64) -> Outcome {
     let recorded = recorded::check_all(engine::run)?;
     println!("{recorded} recorded traces give their pictures on the engine");
     let samples = samples::check_writes(engine::write)?;
     println!("{samples} samples worked out by hand on the engine");
+    let limits = limits::check_all(&CALLS)?;
+    println!("{limits} traces at the limits on the engine");
     let drawn = lines::check_all(engine::write)?;
     println!("{drawn} lines on the engine, every byte as in a textbook");
     println!("seed {seed}, cases {first} to {last}");
@@ -36,7 +53,7 @@ pub fn compare(seed: u64, first: u64, last: u64) -> Outcome {
         let outcome = if case < WRITE_CASES {
             writes::case(&ENGINE, &mut maker, &mut coverage, case)
         } else if case < FIRST_CALIPER {
-            traces::case(&mut maker, &mut calls)
+            traces::case(&mut maker, &mut calls, case - WRITE_CASES)
         } else if case < FIRST_SERIAL {
             caliper::case(&mut maker, &mut shown)
         } else if case < FIRST_LINES {

@@ -1,4 +1,4 @@
-//! Traces: started, appended to, checked and run on both sides, whole and damaged, with several budgets.
+//! Traces: started, appended to, extended, checked and run on both sides, whole and damaged, with several budgets.
 
 use super::calls::{Call, Calls};
 use super::engine::ENGINE;
@@ -6,23 +6,25 @@ use super::{fresh_card, picture, same, Outcome, Pair};
 use crate::damage;
 use crate::engine;
 use crate::generate::Maker;
-use crate::model::trace::{self, ENTRY, HEADER};
-use crate::model::{Card, Write};
+use crate::model::trace::{self, Ran, ENTRY, HEADER, MOST_ENTRIES};
+use crate::model::{self, Card, Write};
+
+/// The first cases have traces of the largest number of entries, one less and one more.
+const AT_THE_LIMIT: u64 = 3;
 
 /// One trace: written entry by entry, checked whole and damaged, and run in pieces.
-pub fn case(maker: &mut Maker, calls: &mut Calls) -> Outcome {
+pub fn case(maker: &mut Maker, calls: &mut Calls, case: u64) -> Outcome {
+    if case < AT_THE_LIMIT {
+        return at_the_limit(maker, calls, (MOST_ENTRIES - 1 + case) as usize);
+    }
     let (length, _) = maker.length();
-    let entries = if maker.random.one_in(150) {
-        4094 + maker.random.below(4) as usize
-    } else {
-        maker.random.below(50) as usize
-    };
+    let entries = maker.random.below(50) as usize;
     let writes = if maker.random.one_in(4) {
         damage::stipples(maker, length, entries, damage::FEW)
     } else {
         damage::writes(maker, length, entries, damage::FEW)
     };
-    written(maker, calls, length, &writes[..entries.min(50)])?;
+    written(maker, calls, length, &writes)?;
     let whole = damage::whole(length, &writes);
     lengthened(maker, calls, &whole)?;
     checked(calls, &whole)?;
@@ -33,6 +35,27 @@ pub fn case(maker: &mut Maker, calls: &mut Calls) -> Outcome {
         lengthened(maker, calls, &bad)?;
         run_in_pieces(maker, calls, &bad[HEADER.min(bad.len())..], length)?;
     }
+    Ok(())
+}
+
+/// So many writes, all accepted, on a small VRAM, since the model looks at all of it at each write: checked and appended to, whole and
+/// damaged, and run whole.
+fn at_the_limit(maker: &mut Maker, calls: &mut Calls, entries: usize) -> Outcome {
+    let length = 256;
+    let writes = damage::writes(maker, length, entries, damage::NEVER);
+    let whole = damage::whole(length, &writes);
+    for bytes in [damage::damaged(maker, &whole), whole.clone()] {
+        lengthened(maker, calls, &bytes)?;
+        checked(calls, &bytes)?;
+    }
+    let mut vram = Pair::new(picture(maker, length));
+    run(
+        calls,
+        &whole[HEADER..],
+        &mut model::reset(0),
+        &mut vram,
+        u32::MAX,
+    )?;
     Ok(())
 }
 
@@ -77,12 +100,38 @@ fn appended(
     used: usize,
     write: Write,
 ) -> Result<(u32, u32), String> {
+    extended(calls, &buffer.model, used, write)?;
     let ours = trace::append(&mut buffer.model, used, write);
     let theirs = engine::append(&mut buffer.other, used, write);
     same(&format!("append of {write:X?} at {used}"), &ours, &theirs)?;
     buffer.same("buffer after append")?;
     calls.add(Call::Append, ours.0);
     Ok(ours)
+}
+
+/// Extends a copy of the buffer. The answer is what the model's append gives where every pad byte is zero, and the bytes are those
+/// too, but that no pad byte is looked at or changed.
+fn extended(calls: &mut Calls, buffer: &[u8], used: usize, write: Write) -> Outcome {
+    let mut lent = Pair::new(buffer.to_vec());
+    let before = used.min(buffer.len());
+    let pads = (HEADER..before).filter(|at| matches!((at - HEADER) % ENTRY, 2 | 3));
+    let kept: Vec<(usize, u8)> = pads.map(|at| (at, buffer[at])).collect();
+    for &(at, _) in &kept {
+        lent.model[at] = 0;
+    }
+    let ours = trace::append(&mut lent.model, used, write);
+    for (at, pad) in kept {
+        lent.model[at] = pad;
+    }
+    let theirs = engine::extend(&mut lent.other, used, write);
+    same(
+        &format!("extension by {write:X?} at {used}"),
+        &ours,
+        &theirs,
+    )?;
+    lent.same("buffer after extension")?;
+    calls.add(Call::Extend, ours.0);
+    Ok(())
 }
 
 /// Appends three entries to bytes that may be a trace already; the third never has room.
@@ -128,17 +177,7 @@ fn run_in_pieces(maker: &mut Maker, calls: &mut Calls, part: &[u8], length: usiz
     for _ in 0..6 {
         let random = maker.random.below(100) as u32;
         let budget = maker.random.pick(&[0, 1, 7, 40, random, 4096, u32::MAX]);
-        let mut theirs = card.clone();
-        let ran = trace::run(&part[from..], &mut card, &mut vram.model, budget);
-        let given = engine::run(&part[from..], &mut theirs, &mut vram.other, budget);
-        same(
-            &format!("run of {} bytes with budget {budget}", part.len() - from),
-            &ran,
-            &given,
-        )?;
-        same("card after run", &card, &theirs)?;
-        vram.same("VRAM after run")?;
-        calls.add(Call::Run, ran.number);
+        let ran = run(calls, &part[from..], &mut card, &mut vram, budget)?;
         if ran.number == 10 || ran.number == 1 {
             return Ok(());
         }
@@ -148,6 +187,24 @@ fn run_in_pieces(maker: &mut Maker, calls: &mut Calls, part: &[u8], length: usiz
         }
     }
     Ok(())
+}
+
+fn run(
+    calls: &mut Calls,
+    part: &[u8],
+    card: &mut Card,
+    vram: &mut Pair,
+    budget: u32,
+) -> Result<Ran, String> {
+    let mut theirs = card.clone();
+    let ran = trace::run(part, card, &mut vram.model, budget);
+    let given = engine::run(part, &mut theirs, &mut vram.other, budget);
+    let what = format!("run of {} bytes with budget {budget}", part.len());
+    same(&what, &ran, &given)?;
+    same("card after run", card, &theirs)?;
+    vram.same("VRAM after run")?;
+    calls.add(Call::Run, ran.number);
+    Ok(ran)
 }
 
 /// Most runs start from reset, some from another card, good or bad.

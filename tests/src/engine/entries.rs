@@ -50,6 +50,15 @@ extern "C" {
         address: u32,
         data: u32,
     ) -> Checked;
+    pub fn zevkholtai_extend(
+        buffer: *mut u8,
+        size: usize,
+        used: usize,
+        space: u8,
+        lanes: u8,
+        address: u32,
+        data: u32,
+    ) -> Checked;
     pub fn zevkholtai_check(bytes: *const u8, size: usize) -> Checked;
     pub fn zevkholtai_run(
         card: *mut c_void,

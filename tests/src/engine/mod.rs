@@ -42,20 +42,26 @@ pub fn start(buffer: &mut [u8], length: u32) -> (u32, u32) {
     (checked.number, checked.length)
 }
 
-pub fn append(buffer: &mut [u8], used: usize, write: Write) -> (u32, u32) {
-    let checked = unsafe {
-        entries::zevkholtai_append(
-            buffer.as_mut_ptr(),
-            buffer.len(),
-            used,
-            write.space,
-            write.lanes,
-            write.address,
-            write.data,
-        )
+/// One write more, by either of the two entries for it.
+macro_rules! one_more {
+    ($name:ident, $entry:ident) => {
+        pub fn $name(buffer: &mut [u8], used: usize, write: Write) -> (u32, u32) {
+            let (place, size) = (buffer.as_mut_ptr(), buffer.len());
+            let Write {
+                space,
+                lanes,
+                address,
+                data,
+            } = write;
+            let checked =
+                unsafe { entries::$entry(place, size, used, space, lanes, address, data) };
+            (checked.number, checked.length)
+        }
     };
-    (checked.number, checked.length)
 }
+
+one_more!(append, zevkholtai_append);
+one_more!(extend, zevkholtai_extend);
 
 pub fn check(bytes: &[u8]) -> (u32, u32) {
     let checked = unsafe { entries::zevkholtai_check(bytes.as_ptr(), bytes.len()) };

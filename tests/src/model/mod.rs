@@ -1,4 +1,4 @@
-//! A reference model of the scope paper, as Asks 1, 2, 4 and 5 of the change requests amend it, written from the papers alone:
+//! A reference model of the scope paper, as Asks 1, 2 and 4 to 6 of the change requests amend it, written from the papers alone:
 //! slow, bit by bit, and sharing nothing with the engine.
 //! Addresses and lengths are handled as u64, and a line's places and errors as i64, so nothing wraps.
 

@@ -20,7 +20,7 @@ const SITUATIONS: [&str; 16] = [
     "end call accepted twice",
     "empty chunk after an accepted end call",
     "10 for a byte after an accepted end call",
-    "end call accepted, 4,096 entries applied",
+    "end call accepted, 65,536 entries applied",
 ];
 
 /// Readers put together by hand.
@@ -59,8 +59,9 @@ enum Wrong {
 fn wrong(sent: &[u8]) -> Wrong {
     let total = u32::from_le_bytes([sent[12], sent[13], sent[14], sent[15]]) as usize;
     // A good header and zeros are a trace; no trace is so long as the longest total here.
+    let longest = HEADER + ENTRY * MOST_ENTRIES as usize;
     let mut blank = sent[..HEADER].to_vec();
-    blank.resize(total.clamp(HEADER, 1 << 16), 0);
+    blank.resize(total.clamp(HEADER, longest + 1), 0);
     let entries = &sent[HEADER..total.clamp(HEADER, sent.len())];
     if trace::check(&blank).0 != 0 {
         Wrong::Header
