@@ -4,6 +4,7 @@ use mathlib.Core.Bool.{true, false}
 use mathlib.Core.List.{List}
 use Prim.Native.Nat.{ℕ, _+_, _*_, _/_, _%_, _≤_}
 use native.Mathlib.Omega.{arith}
+use lib.Dec.{leb}
 use lib.ListN.{length, drop, length-drop}
 use borrow.Author.Tests.{eqb-true, leb-true, not-true}
 use Rattle.rules.specs.Refusal.{badLength}
@@ -33,14 +34,19 @@ pub record Headed (v : List ℕ) : Type 0 where
   pub vram : badLength (word v 8) ≡ false
   pub total : word v 12 ≡ 16 + 12 * word v 0
 
+-- not too many, whatever the number allowed
+pub few-announced : (most : ℕ) (v : List ℕ) → goodHeaderUpTo most v ≡ true → word v 0 ≤ most
+unfolding goodHeaderUpTo
+few-announced most v e = let (_, r) = both (leb 16 (length v)) _ e in leb-true _ _ (both (leb (word v 0) most) _ r .0)
+
 pub headed : (v : List ℕ) → goodHeader v ≡ true → Headed v
 unfolding goodHeaderUpTo
 headed v e =
     let (a, r) = both _ _ e in
-    let (b, s) = both _ _ r in
+    let (_, s) = both (leb (word v 0) largest) _ r in
     let (c, t) = both _ _ s in
     let (d, f) = both _ _ t in
-    record { header = leb-true _ _ a; few = leb-true _ _ b; offset = eqb-true _ _ c; vram = not-true _ d; total = eqb-true _ _ f }
+    record { header = leb-true _ _ a; few = few-announced largest v e; offset = eqb-true _ _ c; vram = not-true _ d; total = eqb-true _ _ f }
 
 pub record Traced (v : List ℕ) : Type 0 where
   pub good : goodHeader v ≡ true

@@ -5,7 +5,7 @@ use mathlib.Core.Bool.{Bool, true, false, cond}
 use mathlib.Core.List.{List, [], _∷_}
 use Prim.Native.Nat.{ℕ, _*_, _≤_, _<_}
 use native.Mathlib.Omega.{arith}
-use lib.Dec.{eqb, leb}
+use lib.Dec.{eqb}
 use lib.ListN.{length, length-set}
 use borrow.Author.Tests.{eq-eqb, ne-eqb, eqb-true, eqb-false, lt-ltb, ltb-true, le-leb, leb-true}
 use Rattle.card.specs.Registers.{isSet}
@@ -13,8 +13,7 @@ use Rattle.card.specs.declared.Write.{Write}
 use Rattle.demands.proofs.Changed.{within}
 use Rattle.demands.proofs.Counting.{count-bound}
 use Rattle.demands.proofs.Demand1.{same-length}
-use Rattle.format.specs.Bytes.{word}
-use Rattle.format.specs.Traces.{goodHeaderUpTo}
+use Rattle.format.proofs.Tested.{few-announced}
 use Rattle.rules.proofs.Tests.{both}
 use Rattle.trace.specs.Run.{State, answer, apply, refuse, ran}
 use Rattle.line.specs.declared.Reader.{Reader}
@@ -135,18 +134,13 @@ draws-sound most w s o m h =
     awaits true = omega arith
     awaits false = omega arith
 
--- a header that opens the trace announces no more than are allowed
-announces-few : (most : ℕ) (v : List ℕ) → goodHeaderUpTo most v ≡ true → word v 0 ≤ most
-unfolding goodHeaderUpTo
-announces-few most v e = let (_, r) = both (leb 16 (length v)) _ e in leb-true _ _ (both (leb (word v 0) most) _ r .0)
-
 sound-step : {most : ℕ} {s t : Standing} {b : ℕ} → Sound most (s .reader) → Step most s b t → Sound most (t .reader)
 unfolding waits opens
 sound-step h (stays n) = h
 sound-step h refuses = record { space = h .space; within = h .within; few = h .few; total = h .total; changes = h .changes }
 sound-step h (waiting l) = record { space = l; within = h .within; few = h .few; total = h .total; changes = h .changes }
 sound-step {s = s} h (drawing f o m l) = draws-sound _ _ s o m h
-sound-step h (opening l g) = record { space = omega arith; within = omega arith; few = announces-few _ _ g; total = omega arith; changes = omega arith }
+sound-step h (opening l g) = record { space = omega arith; within = omega arith; few = few-announced _ _ g; total = omega arith; changes = omega arith }
 
 pub byte-sound : (most : ℕ) (s : Standing) (b : ℕ) → Sound most (s .reader) → Sound most (byteUpTo most s b .reader)
 byte-sound most s b h = sound-step h (step most s b)
