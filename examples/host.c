@@ -37,7 +37,8 @@ static void fill(uint32_t changed) {
 }
 
 static uint32_t record(uint32_t used, uint8_t space, uint32_t address, uint32_t data) {
-    struct zevkholtai_checked t = zevkholtai_append(trace, sizeof trace, used, space, 15, address, data);
+    /* this program started the trace, so it need not be judged again at each write */
+    struct zevkholtai_checked t = zevkholtai_extend(trace, sizeof trace, used, space, 15, address, data);
     promised(t.number == 0 && t.length == used + 12, "a recorded write");
     return t.length;
 }
@@ -86,7 +87,7 @@ int main(void) {
     struct zevkholtai_card saved = card;
     for (int turn = 0; turn < 2; turn++) {
         card = saved; /* or the second bar would have no mask, and ten pixels of it would stay */
-        struct zevkholtai_ran r = zevkholtai_run(&card, trace + 16, used - 16, vram, SIZE, 4096);
+        struct zevkholtai_ran r = zevkholtai_run(&card, trace + 16, used - 16, vram, SIZE, 65536);
         promised(r.number == 0 && r.entries == 22 && r.pixels == 56 && r.changed == 56 && r.rest == used - 16, "a whole run");
         promised(card.mask.marked == 0 && card.mask.bits == 0xFFFFFFFF, "a one-shot mask, used up");
         int n = differing(vram, filled);

@@ -107,14 +107,14 @@ struct zevkholtai_checked {
 
 struct zevkholtai_ran {
     uint32_t number;
-    uint32_t entries; /* entries applied: at most the budget, the entries of the part, and 4,096 */
-    uint32_t pixels;  /* total count of these: at most 8,388,608 */
+    uint32_t entries; /* entries applied: at most the budget, the entries of the part, and 65,536 */
+    uint32_t pixels;  /* total count of these: at most 134,217,728 */
     uint32_t changed; /* total changed by these: at most pixels; a pixel that two of them change counts twice */
     uint32_t rest;    /* the unread part begins at this byte of the part: 12 * entries */
 };
 
 /* What waits between two chunks of a trace: 44 bytes, no padding. After any calls from a new reader, applied is at most
- * announced and 4,096, pixels at most 8,388,608, and changed at most pixels. */
+ * announced and 65,536, pixels at most 134,217,728, and changed at most pixels. */
 struct zevkholtai_reader {
     uint32_t number;     /* what the last call answered; it sticks where it is not 0 */
     uint32_t opened;     /* a mark: the header is read */
@@ -146,8 +146,19 @@ struct zevkholtai_checked zevkholtai_start(uint8_t *buffer, size_t size, uint32_
 
 /* Appends a write to the trace in the buffer's first `used` bytes; bytes past its 12 stay. Answers the trace's new length;
  * or 10 where those bytes are no trace or the buffer has not so many, 2, or 11 where 12 more bytes don't fit or the trace has
- * 4,096 entries, and the buffer keeps every byte. */
+ * 65,536 entries, and the buffer keeps every byte. The longest trace has 786,448 bytes.
+ *
+ * It looks at every entry that the trace has, so recording a long one costs the square of its length: see
+ * zevkholtai_extend. */
 struct zevkholtai_checked zevkholtai_append(uint8_t *buffer, size_t size, size_t used, uint8_t space, uint8_t lanes,
+                                            uint32_t address, uint32_t data);
+
+/* Appends, for a host that knows the first `used` bytes for a trace: it started that trace in this buffer, or checked it
+ * once, and no other hand changed it since. Number, length and every byte are those of zevkholtai_append, and it takes no
+ * longer where the trace is long, since it looks at the header alone. Where the bytes are no trace the answer is the same
+ * too, 10, but in one case: their header is good and its total is `used`, and a pad byte of an entry is not zero. Then
+ * zevkholtai_append answers 10, and this one does not see it, and appends; zevkholtai_check of the result answers 10. */
+struct zevkholtai_checked zevkholtai_extend(uint8_t *buffer, size_t size, size_t used, uint8_t space, uint8_t lanes,
                                             uint32_t address, uint32_t data);
 
 /* Whether the bytes are a trace: 0 or 10. The length answered is that of the VRAM it is for. Where the number is 0, its
@@ -155,7 +166,7 @@ struct zevkholtai_checked zevkholtai_append(uint8_t *buffer, size_t size, size_t
 struct zevkholtai_checked zevkholtai_check(const uint8_t *bytes, size_t size);
 
 /* Makes the writes of a part, the entries of a trace, until the budget or the part ends or one is refused. Answers 10 where
- * the part is not whole entries, has a nonzero pad byte or over 4,096 entries; then 1; then the number of the refused write,
+ * the part is not whole entries, has a nonzero pad byte or over 65,536 entries; then 1; then the number of the refused write,
  * with which the unread part begins. What was drawn before it stays. To go on, hand in the unread part. */
 struct zevkholtai_ran zevkholtai_run(struct zevkholtai_card *card, const uint8_t *part, size_t size, uint8_t *vram,
                                      size_t length, uint32_t budget);
@@ -175,7 +186,7 @@ struct zevkholtai_reader zevkholtai_new_reader(void);
  * answer it, and change nothing.
  *
  * A reader whose number is 0 answers 10, before 1, and nothing else changes, where 16 bytes or more wait, 12 or more once
- * the header is read, more entries are applied than announced, over 4,096 are announced, there are more than 2,048 pixels
+ * the header is read, more entries are applied than announced, over 65,536 are announced, there are more than 2,048 pixels
  * an entry, or more are changed than counted: no bytes can leave it so. */
 struct zevkholtai_fed zevkholtai_chunk(struct zevkholtai_reader reader, struct zevkholtai_card card, const uint8_t *bytes,
                                        size_t size, uint8_t *vram, size_t length);

@@ -30,41 +30,41 @@ checked-part m v e = rw e (trace-entries m v e)
 -- ---- More are allowed.
 
 module _ (m n : ℕ) (h : m ≤ n) where
-  few-still : (k : ℕ) → leb k m ≡ true → leb k n ≡ true
-  few-still k e = le-leb k n (omega (arith, h, leb-true k m e))
+  few-raised : (k : ℕ) → leb k m ≡ true → leb k n ≡ true
+  few-raised k e = le-leb k n (omega (arith, h, leb-true k m e))
 
-  pub formed-still : (part : List ℕ) → wellFormedUpTo m part ≡ true → wellFormedUpTo n part ≡ true
+  pub formed-raised : (part : List ℕ) → wellFormedUpTo m part ≡ true → wellFormedUpTo n part ≡ true
   unfolding wellFormedUpTo
-  formed-still part e =
+  formed-raised part e =
       let (a, r) = both (eqb (length part % 12) 0) _ e in
       let (b, c) = both (leb (entryCount part) m) _ r in
-      rw (a, few-still (entryCount part) b, c)
+      rw (a, few-raised (entryCount part) b, c)
 
-  header-still : (v : List ℕ) → goodHeaderUpTo m v ≡ true → goodHeaderUpTo n v ≡ true
+  header-raised : (v : List ℕ) → goodHeaderUpTo m v ≡ true → goodHeaderUpTo n v ≡ true
   unfolding goodHeaderUpTo
-  header-still v e =
+  header-raised v e =
       let (a, r) = both (leb 16 (length v)) _ e in
       let (b, c) = both (leb (word v 0) m) _ r in
-      rw (a, few-still (word v 0) b, c)
+      rw (a, few-raised (word v 0) b, c)
 
-  length-still : (v : List ℕ) → fitsHeaderUpTo m v ≡ true → fitsHeaderUpTo n v ≡ true
+  length-raised : (v : List ℕ) → fitsHeaderUpTo m v ≡ true → fitsHeaderUpTo n v ≡ true
   unfolding fitsHeaderUpTo
-  length-still v e = let (a, b) = both (goodHeaderUpTo m v) _ e in rw (header-still v a, b)
+  length-raised v e = let (a, b) = both (goodHeaderUpTo m v) _ e in rw (header-raised v a, b)
 
-  pub trace-still : (v : List ℕ) → isTraceUpTo m v ≡ true → isTraceUpTo n v ≡ true
+  pub trace-raised : (v : List ℕ) → isTraceUpTo m v ≡ true → isTraceUpTo n v ≡ true
   unfolding isTraceUpTo
-  trace-still v e = let (a, b) = both (fitsHeaderUpTo m v) _ e in rw (length-still v a, formed-still (drop 16 v) b)
+  trace-raised v e = let (a, b) = both (fitsHeaderUpTo m v) _ e in rw (length-raised v a, formed-raised (drop 16 v) b)
 
   -- the same VRAM length and the same writes
-  pub says-still : (v : List ℕ) → isTraceUpTo m v ≡ true → decodedUpTo n v ≡ decodedUpTo m v
+  pub says-raised : (v : List ℕ) → isTraceUpTo m v ≡ true → decodedUpTo n v ≡ decodedUpTo m v
   unfolding decodedUpTo
-  says-still v e = rw (e, trace-still v e)
+  says-raised v e = rw (e, trace-raised v e)
 
   -- a check answers the same
-  pub checks-still : (v : List ℕ) → isTraceUpTo m v ≡ true
+  pub checks-raised : (v : List ℕ) → isTraceUpTo m v ≡ true
       → (checkNumberUpTo n v ≡ checkNumberUpTo m v) × (checkPartUpTo n v ≡ checkPartUpTo m v) × (checkLengthUpTo n v ≡ checkLengthUpTo m v)
   unfolding checkNumberUpTo checkPartUpTo checkLengthUpTo
-  checks-still v e = rw (e, trace-still v e) (refl, refl, refl)
+  checks-raised v e = rw (e, trace-raised v e) (refl, refl, refl)
 
 -- ---- Fewer are allowed.
 

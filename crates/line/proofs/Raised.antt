@@ -13,7 +13,7 @@ use Rattle.card.specs.declared.Card.{Card}
 use Rattle.rules.specs.Refusal.{badLength}
 use Rattle.format.specs.Bytes.{word}
 use Rattle.format.specs.Traces.{largest, entryCount, isTraceUpTo, checkPartUpTo}
-use Rattle.format.proofs.Raised.{before, trace-still, header-refused as announces-more}
+use Rattle.format.proofs.Raised.{before, trace-raised, header-refused as announces-more}
 use Rattle.trace.specs.Run.{nothing, runUpTo}
 use Rattle.trace.proofs.Raised.{every-old-trace}
 use Rattle.line.specs.Serial.{newReader, Standing, stateOf, complete, sticks, readsUpTo, chunkUpTo, chunks, chunksUpTo, joined, finished, finishedUpTo}
@@ -68,4 +68,4 @@ pub every-old-trace-arrives : (v : List ℕ) → isTraceUpTo before v ≡ true �
     → stateOf (finished (chunks (bs ∷ rest) (fresh c p))) ≡ runUpTo before (checkPartUpTo before v) budget c p
 every-old-trace-arrives v e c p bs rest cut budget h =
     let old = every-old-trace v e in
-    one-whole-run v c p bs rest cut budget (trace-still before largest (omega arith) v e) (omega (arith, h, ap entryCount (old .part))) ∙ old .runs budget c p
+    one-whole-run v c p bs rest cut budget (trace-raised before largest (omega arith) v e) (omega (arith, h, ap entryCount (old .part))) ∙ old .runs budget c p

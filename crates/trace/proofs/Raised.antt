@@ -11,15 +11,15 @@ use Rattle.format.specs.Bytes.{word}
 use Rattle.format.specs.Traces.{largest, entryCount, wellFormedUpTo, isTrace, isTraceUpTo, decoded, decodedUpTo, malformed, checkNumber, checkNumberUpTo, checkPart, checkPartUpTo, checkLength, checkLengthUpTo}
 use Rattle.format.proofs.Tested.{traced, counted}
 use Rattle.format.proofs.Checking.{good}
-use Rattle.format.proofs.Raised.{before, checked-part, formed-still, says-still, checks-still, part-refused, says-nothing, check-refused}
+use Rattle.format.proofs.Raised.{before, checked-part, formed-raised, says-raised, checks-raised, part-refused, says-nothing, check-refused}
 use Rattle.trace.specs.Run.{nothing, run, runUpTo}
 
 -- ---- Over any two numbers.
 
-pub runs-still : (m n : ℕ) → m ≤ n → (part : List ℕ) → wellFormedUpTo m part ≡ true → (budget : ℕ) (c : Card) (v : List ℕ)
+pub runs-raised : (m n : ℕ) → m ≤ n → (part : List ℕ) → wellFormedUpTo m part ≡ true → (budget : ℕ) (c : Card) (v : List ℕ)
     → runUpTo n part budget c v ≡ runUpTo m part budget c v
 unfolding runUpTo
-runs-still m n h part e budget c v = rw (e, formed-still m n h part e)
+runs-raised m n h part e budget c v = rw (e, formed-raised m n h part e)
 
 pub run-refused : (m : ℕ) (part : List ℕ) → m < entryCount part → (budget : ℕ) (c : Card) (v : List ℕ) → runUpTo m part budget c v ≡ nothing 10 c v
 unfolding runUpTo
@@ -41,13 +41,13 @@ pub record AsBefore (v : List ℕ) : Type 0 where
 pub every-old-trace : (v : List ℕ) → isTraceUpTo before v ≡ true → AsBefore v
 every-old-trace v e =
     let more : before ≤ largest = omega arith in
-    let (number, part, memory) = checks-still before largest more v e in
+    let (number, part, memory) = checks-raised before largest more v e in
     record {
-      says = says-still before largest more v e;
+      says = says-raised before largest more v e;
       number = number;
       part = part;
       memory = memory;
-      runs = λ budget c p. ap (λ (x : List ℕ). run x budget c p) part ∙ runs-still before largest more (checkPartUpTo before v) (checked-part before v e) budget c p;
+      runs = λ budget c p. ap (λ (x : List ℕ). run x budget c p) part ∙ runs-raised before largest more (checkPartUpTo before v) (checked-part before v e) budget c p;
     }
 
 -- a trace of today with more entries than the number of before
