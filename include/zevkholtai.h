@@ -154,10 +154,10 @@ struct zevkholtai_checked zevkholtai_append(uint8_t *buffer, size_t size, size_t
                                             uint32_t address, uint32_t data);
 
 /* Appends, for a host that knows the first `used` bytes for a trace: it started that trace in this buffer, or checked it
- * once, and no other hand changed it since. Number, length and every byte are those of zevkholtai_append, and it takes no
- * longer where the trace is long, since it looks at the header alone. Where the bytes are no trace the answer is the same
- * too, 10, but in one case: their header is good and its total is `used`, and a pad byte of an entry is not zero. Then
- * zevkholtai_append answers 10, and this one does not see it, and appends; zevkholtai_check of the result answers 10. */
+ * once, and only this call and zevkholtai_append changed it since. Number, length and every byte are those of
+ * zevkholtai_append, and it takes no longer where the trace is long, since it looks at the header alone. Of bytes that are
+ * no trace the same holds, but in one case: their header is good and its total is `used`, and a pad byte of an entry is not
+ * zero. zevkholtai_append answers 10 then; this one does not see it, and answers 2, 11 or 0 as for a trace. */
 struct zevkholtai_checked zevkholtai_extend(uint8_t *buffer, size_t size, size_t used, uint8_t space, uint8_t lanes,
                                             uint32_t address, uint32_t data);
 

@@ -161,6 +161,7 @@ for entries in 4096 4097 65535 65536; do
     [ "$got" -eq 0 ] || wrong "$entries entries: exit status $got, not 0"
     printf 'number 0\nentries %s\npixels %s\nvram 64\nchanged 4\n' "$entries" $((4 * entries)) | cmp -s - "$room/out" ||
         wrong "$entries entries: it said $(cat "$room/out")"
+    { printf 'P5\n8 8\n255\n\021\042\063\104' && head -c 60 /dev/zero; } | cmp -s - "$room/long.pgm" || wrong "$entries entries: another picture"
     passed=$((passed + 1))
     arrives_as long 8 cat "$room/long.trace"
 done

@@ -138,6 +138,7 @@ fn counted(maker: &mut Maker, bytes: &mut [u8]) {
         1 => 0xFFFF_FFFF - maker.random.below(4) as u32,
         // Twelve times this count is the true size again, modulo 2^32.
         2 => (((bytes.len() - HEADER) / ENTRY) as u32).wrapping_add(1 << 30),
+        // The largest number before Ask 6, and the one since.
         3 => 4096 + maker.random.below(2) as u32,
         _ => MOST_ENTRIES as u32 + maker.random.below(2) as u32,
     };

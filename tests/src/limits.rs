@@ -13,8 +13,8 @@ pub struct Calls {
     pub check: fn(&[u8]) -> (u32, u32),
     pub run: Run,
     pub write: fn(&mut Card, &mut [u8], Write) -> model::Answer,
-    /// The number of a new reader after these bytes, and the entries that it has applied.
-    pub arrives: fn(&[u8]) -> (u32, u32),
+    /// What a new reader leaves of these bytes and of the picture: its number, the entries applied, the pixels and those changed.
+    pub arrives: fn(&[u8], &mut [u8]) -> [u32; 4],
 }
 
 const VRAM: u32 = 64;
@@ -35,6 +35,13 @@ const SIMPLE: Write = Write {
     lanes: 15,
     address: 0,
     data: 0x4433_2211,
+};
+
+/// What any number of them leave.
+const DRAWN: [u8; VRAM as usize] = {
+    let mut picture = [0; VRAM as usize];
+    (picture[0], picture[1], picture[2], picture[3]) = (0x11, 0x22, 0x33, 0x44);
+    picture
 };
 
 /// A trace of so many times the simple write, and room for an entry after it.
@@ -71,23 +78,27 @@ fn check_one(side: &Calls, limit: Limit) -> Result<(), String> {
     let buffer = bytes_of(entries);
     let used = buffer.len() - trace::ENTRY;
     is("check", (side.check)(&buffer[..used]), checked)?;
-    let drawn = if number == 0 { entries } else { 0 };
-    let ran = run(side, &buffer[trace::HEADER..used], &mut model::reset(0), 64);
-    is("run", [ran.number, ran.entries, ran.pixels, ran.rest], {
-        [number, drawn, 4 * drawn, 12 * drawn]
-    })?;
+    let (whole, rest, picture) = if number == 0 {
+        ([0, entries, 4 * entries, 4], 12 * entries, DRAWN)
+    } else {
+        ([number, 0, 0, 0], 0, [0; VRAM as usize])
+    };
+    let mut vram = [0; VRAM as usize];
+    let part = &buffer[trace::HEADER..used];
+    let ran = (side.run)(part, &mut model::reset(0), &mut vram, u32::MAX);
+    is("run", totals(&ran), whole)?;
+    is("run's rest", ran.rest, rest)?;
+    is("run's picture", vram, picture)?;
     for (n, number) in [15, 16].into_iter().zip(heard) {
-        is(
-            "a part that arrives",
-            (side.arrives)(&buffer[..n]),
-            (number, 0),
-        )?;
+        let mut vram = [0; VRAM as usize];
+        let left = (side.arrives)(&buffer[..n], &mut vram);
+        is("a part that arrives", left, [number, 0, 0, 0])?;
+        is("its picture", vram, [0; VRAM as usize])?;
     }
-    is(
-        "all that arrives",
-        (side.arrives)(&buffer[..used]),
-        (number, drawn),
-    )?;
+    let mut vram = [0; VRAM as usize];
+    let left = (side.arrives)(&buffer[..used], &mut vram);
+    is("all that arrives", left, whole)?;
+    is("its picture", vram, picture)?;
     let calls = [Some(side.append), side.extend];
     for append in calls.into_iter().flatten() {
         let mut lent = buffer.clone();
@@ -104,8 +115,8 @@ fn check_one(side: &Calls, limit: Limit) -> Result<(), String> {
     Ok(())
 }
 
-fn run(side: &Calls, part: &[u8], card: &mut Card, length: usize) -> Ran {
-    (side.run)(part, card, &mut vec![0; length], u32::MAX)
+fn totals(ran: &Ran) -> [u32; 4] {
+    [ran.number, ran.entries, ran.pixels, ran.changed]
 }
 
 /// "the run's pixel total then never exceeds 134,217,728": the largest number of the widest fills, each of which changes every
@@ -133,12 +144,12 @@ fn most_pixels(side: &Calls) -> Result<(), String> {
     }
     let fill = [0x00, 0x0F, 0, 0, 0, 0, 0, 0, 0xFF, 0x07, 0, 0];
     let part = fill.repeat(65_536);
-    let ran = run(side, &part, &mut card, 2_048);
-    is(
-        "the widest run",
-        [ran.number, ran.entries, ran.pixels, ran.changed],
-        [0, 65_536, 134_217_728, 134_217_728],
-    )
+    let mut vram = [0; 2_048];
+    let ran = (side.run)(&part, &mut card, &mut vram, u32::MAX);
+    let most = [0, 65_536, 134_217_728, 134_217_728];
+    is("the widest run", totals(&ran), most)?;
+    // An even number of fills.
+    is("its picture", vram, [0; 2_048])
 }
 
 /// The model's calls.
@@ -148,9 +159,9 @@ pub const MODEL: Calls = Calls {
     check: trace::check,
     run: trace::run,
     write: model::write,
-    arrives: |bytes| {
+    arrives: |bytes, vram| {
         let mut reader = model::serial::Reader::new();
-        let number = reader.chunk(bytes, &mut model::reset(0), &mut [0; 64]);
-        (number, reader.entries())
+        let number = reader.chunk(bytes, &mut model::reset(0), vram);
+        [number, reader.entries(), reader.pixels(), reader.changed()]
     },
 };

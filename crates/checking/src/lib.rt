@@ -54,7 +54,7 @@ pub fn good_header(b: &[u8]) -> bool
     word_at(b, 12) as usize == HEADER + ENTRY * entries
 }
 
-// And are as many as the header's total says.
+// The bytes begin so, and are as many as the header's total says.
 pub fn fits_header(b: &[u8]) -> bool
     ensures { λ r. ⌜ r ≡ fitsHeader (now (b .entry)) ⌝ }
 {

@@ -1,6 +1,6 @@
 -- What starting, appending and extending leave in the buffer: the bytes of a trace, and every byte past it. Appending assumes a buffer of bytes
 -- (`Bytes`).
-use mathlib.Core.Path.{_≡_, refl, ap, sym, _∙_}
+use mathlib.Core.Path.{_≡_, refl, ap, sym, _∙_, subst}
 use mathlib.Core.Bool.{Bool, true, false, cond}
 use mathlib.Core.List.{List, [], _∷_, _++_, append-assoc, append-nil}
 use Prim.Native.Nat.{ℕ, _+_, _≤_, _<_}
@@ -13,7 +13,7 @@ use Rattle.card.specs.declared.Write.{Write}
 use Rattle.span.specs.Fragments.{Bytes}
 use Rattle.format.specs.Bytes.{word, wordAt, bytes}
 use Rattle.format.specs.Traces.{largest, header, entry, entries, encoded, writes, isTrace}
-use Rattle.format.specs.Recording.{startNumber, startLength, started, numberWhere, lengthWhere, holdsTrace, appendNumber, appendLength, appended, holdsHeader, extendNumber, extendLength, grown, grownWhere, extended}
+use Rattle.format.specs.Recording.{startNumber, startLength, started, oneMoreNumber, oneMoreLength, holdsTrace, appendNumber, appendLength, appended, grown, oneMoreBuffer}
 use Rattle.format.proofs.Bytes.{word-take, front, after}
 use Rattle.format.proofs.Inside.{word-inside}
 use Rattle.format.proofs.Tested.{Headed, headed, fitting, traced, counted}
@@ -132,7 +132,7 @@ unfolding entries
 entries-append [] w = append-nil (entry w)
 entries-append (x ∷ ws) w = ap (λ (l : List ℕ). entry x ++ l) (entries-append ws w) ∙ sym (append-assoc (entry x) (entries ws) (entry w))
 
-pub grown-trace : (b : List ℕ) (used : ℕ) (w : Write) (ws : List Write) → length ws ≡ word (take used b) 0 → entries ws ≡ drop 16 (take used b)
+grown-trace : (b : List ℕ) (used : ℕ) (w : Write) (ws : List Write) → length ws ≡ word (take used b) 0 → entries ws ≡ drop 16 (take used b)
     → grown b used w ≡ encoded (word (take used b) 8) (ws ++ (w ∷ [])) ++ drop (used + 12) b
 unfolding grown encoded
 grown-trace b used w ws n e =
@@ -141,15 +141,15 @@ grown-trace b used w ws n e =
 
 -- ---- As the code answers.
 
-module _ (t : Bool) (b : List ℕ) (used : ℕ) (w : Write) {n : ℕ} (e : n ≡ numberWhere t b used w) where
-  pub not-grown : (n ≡ 0 → ⊥) → (n ≡ numberWhere t b used w) × (0 ≡ lengthWhere t b used w) × (b ≡ grownWhere t b used w)
-  unfolding grownWhere
+module _ (t : Bool) (b : List ℕ) (used : ℕ) (w : Write) {n : ℕ} (e : n ≡ oneMoreNumber t b used w) where
+  pub not-grown : (n ≡ 0 → ⊥) → (n ≡ oneMoreNumber t b used w) × (0 ≡ oneMoreLength t b used w) × (b ≡ oneMoreBuffer t b used w)
+  unfolding oneMoreBuffer
   not-grown h =
-      let z : numberWhere t b used w ≡ 0 → ⊥ = λ f. h (e ∙ f) in (e, refused-length t b used w z, rw (ne-eqb _ _ z))
+      let z : oneMoreNumber t b used w ≡ 0 → ⊥ = λ f. h (e ∙ f) in (e, refused-length t b used w z, rw (ne-eqb _ _ z))
 
   pub now-grown : n ≡ 0 → {v : List ℕ} → v ≡ grown b used w
-      → (n ≡ numberWhere t b used w) × (used + 12 ≡ lengthWhere t b used w) × (v ≡ grownWhere t b used w)
-  unfolding grownWhere
+      → (n ≡ oneMoreNumber t b used w) × (used + 12 ≡ oneMoreLength t b used w) × (v ≡ oneMoreBuffer t b used w)
+  unfolding oneMoreBuffer
   now-grown h s = let z = sym e ∙ h in (e, accepted-length t b used w z, rw (eq-eqb _ _ z) s)
 
 -- ---- Appending: the entries of a trace are those of its writes.
@@ -162,8 +162,8 @@ trace-grown b used w fits e =
     (length-writes (drop 16 (take used b)) ∙ counted (take used b) t)
     (entries-writes (drop 16 (take used b)) (after 16 (take used b) (front used b fits)) (t .entries))
 
-pub appending : (b : List ℕ) (used : ℕ) (w : Write) → Bytes b → grownWhere (holdsTrace b used) b used w ≡ appended b used w
-unfolding grownWhere appended
+pub appending : (b : List ℕ) (used : ℕ) (w : Write) → Bytes b → oneMoreBuffer (holdsTrace b used) b used w ≡ appended b used w
+unfolding oneMoreBuffer appended
 appending b used w fits = go (eqb (appendNumber b used w) 0) refl
   where
     after-it : List ℕ
@@ -173,15 +173,15 @@ appending b used w fits = go (eqb (appendNumber b used w) 0) refl
     go true z = trace-grown b used w fits (appends-to-trace b used w (eqb-true _ _ z))
     go false z = refl
 
--- as the code answers
-pub as-appended : (t : Bool) (b : List ℕ) (used : ℕ) (w : Write) → Bytes b → t ≡ holdsTrace b used → {n k : ℕ} {v : List ℕ}
-    → (n ≡ numberWhere t b used w) × (k ≡ lengthWhere t b used w) × (v ≡ grownWhere t b used w)
-    → (n ≡ appendNumber b used w) × (k ≡ appendLength b used w) × (v ≡ appended b used w)
-as-appended t b used w fits e (number, lengths, leaves) =
-    (number ∙ ap (λ (x : Bool). numberWhere x b used w) e, lengths ∙ ap (λ (x : Bool). lengthWhere x b used w) e, leaves ∙ ap (λ (x : Bool). grownWhere x b used w) e ∙ appending b used w fits)
+-- ---- The code hands on its test's answer t; what holds by t holds by the test.
 
-pub as-extended : (t : Bool) (b : List ℕ) (used : ℕ) (w : Write) → t ≡ holdsHeader b used → {n k : ℕ} {v : List ℕ}
-    → (n ≡ numberWhere t b used w) × (k ≡ lengthWhere t b used w) × (v ≡ grownWhere t b used w)
-    → (n ≡ extendNumber b used w) × (k ≡ extendLength b used w) × (v ≡ extended b used w)
-as-extended t b used w e (number, lengths, leaves) =
-    (number ∙ ap (λ (x : Bool). numberWhere x b used w) e, lengths ∙ ap (λ (x : Bool). lengthWhere x b used w) e, leaves ∙ ap (λ (x : Bool). grownWhere x b used w) e)
+abbrev Answered : Bool → List ℕ → ℕ → Write → ℕ → ℕ → List ℕ → Type 0
+Answered t b used w n k v = (n ≡ oneMoreNumber t b used w) × (k ≡ oneMoreLength t b used w) × (v ≡ oneMoreBuffer t b used w)
+
+pub as-tested : (t u : Bool) (b : List ℕ) (used : ℕ) (w : Write) → t ≡ u → {n k : ℕ} {v : List ℕ} → Answered t b used w n k v → Answered u b used w n k v
+as-tested t u b used w e {n} {k} {v} h = subst (λ (x : Bool). Answered x b used w n k v) e h
+
+pub as-appended : (t : Bool) (b : List ℕ) (used : ℕ) (w : Write) → Bytes b → t ≡ holdsTrace b used → {n k : ℕ} {v : List ℕ} → Answered t b used w n k v
+    → (n ≡ appendNumber b used w) × (k ≡ appendLength b used w) × (v ≡ appended b used w)
+as-appended t b used w fits e h =
+    let (number, lengths, leaves) = as-tested t (holdsTrace b used) b used w e h in (number, lengths, leaves ∙ appending b used w fits)

@@ -1,5 +1,5 @@
--- Change request 6: where more entries are allowed, every trace says what it said; and where fewer are, one with more is none.
--- Over any two numbers. Assumes nothing.
+-- Change request 6: where more entries are allowed, every trace says what it said; and where fewer are, one with more is none. Over any two numbers. And how
+-- long a trace can be. Assumes nothing.
 use mathlib.Core.Path.{_≡_, refl, sym}
 use mathlib.Core.Bool.{true, false}
 use mathlib.Core.List.{List, []}
@@ -10,13 +10,18 @@ use lib.ListN.{length, drop}
 use borrow.Author.Tests.{leb-true, le-leb}
 use Rattle.rules.proofs.Tests.{both}
 use Rattle.format.specs.Bytes.{word}
-use Rattle.format.specs.Traces.{entryCount, wellFormedUpTo, goodHeaderUpTo, fitsHeaderUpTo, isTraceUpTo, malformed, decodedUpTo, checkNumberUpTo, checkPartUpTo, checkLengthUpTo}
+use Rattle.format.specs.Traces.{entryCount, wellFormedUpTo, goodHeaderUpTo, fitsHeaderUpTo, isTrace, isTraceUpTo, malformed, decodedUpTo, checkNumberUpTo, checkPartUpTo, checkLengthUpTo}
 use Rattle.format.proofs.Padding.{too-many}
+use Rattle.format.proofs.Tested.{headed, traced}
 use Rattle.format.proofs.HeaderTests.{many-entries, bad-header, not-fitting}
 
--- the number before the request
-abbrev pub before : ℕ
-before = 4096
+-- the largest number before the request
+abbrev pub oldLargest : ℕ
+oldLargest = 4096
+
+-- no trace is longer than this, so that no sum of its lengths wraps
+pub longest : (v : List ℕ) → isTrace v ≡ true → length v ≤ 786448
+longest v e = let t = traced v e in let h = headed v (t .good) in omega (arith, t .whole, t .total, h .few)
 
 -- a check hands back a part that can be run, under the same number
 trace-entries : (m : ℕ) (v : List ℕ) → isTraceUpTo m v ≡ true → wellFormedUpTo m (drop 16 v) ≡ true

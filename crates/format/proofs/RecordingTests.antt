@@ -1,6 +1,6 @@
--- The numbers of starting and appending: one law for each answer of the code, and what an accepted one says. Assumes nothing.
+-- The numbers of starting, appending and extending: one law for each answer of the code, and what an accepted one says. Assumes nothing.
 use mathlib.Core.Path.{_≡_, refl, sym, _∙_}
-use mathlib.Core.Bool.{Bool, true, false, cond, _&&_, _||_}
+use mathlib.Core.Bool.{Bool, true, false, cond, not, _||_}
 use mathlib.Core.List.{List}
 use Prim.Native.Nat.{ℕ, _+_, _≤_, _<_}
 use native.Mathlib.Nat.{zero-lt-suc}
@@ -13,7 +13,7 @@ use Rattle.rules.specs.Refusal.{badLength, badSpace}
 use Rattle.rules.proofs.Tests.{both, neither}
 use Rattle.format.specs.Bytes.{word}
 use Rattle.format.specs.Traces.{largest, fitsHeader, isTrace}
-use Rattle.format.specs.Recording.{startNumber, numberWhere, lengthWhere, holdsTrace, appendNumber, holdsHeader, extendNumber}
+use Rattle.format.specs.Recording.{startNumber, oneMoreNumber, oneMoreLength, holdsTrace, appendNumber, holdsHeader}
 use Rattle.format.proofs.Tested.{trace-fitting}
 
 or-true : (b : Bool) → b || true ≡ true
@@ -55,37 +55,37 @@ module _ (b : List ℕ) (used : ℕ) where
 
 -- one write more, where the first bytes are taken for a trace or not
 module _ (t : Bool) (b : List ℕ) (used : ℕ) (w : Write) where
-  pub no-trace : t ≡ false → 10 ≡ numberWhere t b used w
-  unfolding numberWhere
+  pub no-trace : t ≡ false → 10 ≡ oneMoreNumber t b used w
+  unfolding oneMoreNumber
   no-trace e = rw e
 
   module _ (trace : t ≡ true) where
-    pub bad-write : badSpace w ≡ true → 2 ≡ numberWhere t b used w
-    unfolding numberWhere
+    pub bad-write : badSpace w ≡ true → 2 ≡ oneMoreNumber t b used w
+    unfolding oneMoreNumber
     bad-write s = simp (trace, s)
 
     module _ (space : badSpace w ≡ false) where
-      pub no-room : length b < used + 12 → 11 ≡ numberWhere t b used w
-      unfolding numberWhere
+      pub no-room : length b < used + 12 → 11 ≡ oneMoreNumber t b used w
+      unfolding oneMoreNumber
       no-room h = simp (trace, space, lt-ltb (length b) (used + 12) h)
 
       module _ (room : used + 12 ≤ length b) {count : ℕ} (e : count ≡ word b 0) where
-        pub full : count ≡ largest → 11 ≡ numberWhere t b used w
-        unfolding numberWhere
+        pub full : count ≡ largest → 11 ≡ oneMoreNumber t b used w
+        unfolding oneMoreNumber
         full h = simp (trace, space, eq-eqb (word b 0) largest (sym e ∙ h), or-true)
 
-        pub fits : (count ≡ largest → ⊥) → 0 ≡ numberWhere t b used w
-        unfolding numberWhere
+        pub fits : (count ≡ largest → ⊥) → 0 ≡ oneMoreNumber t b used w
+        unfolding oneMoreNumber
         fits h = simp (trace, space, le-ltb (length b) (used + 12) room, ne-eqb (word b 0) largest (λ f. h (e ∙ f)))
 
-  accepted : numberWhere t b used w ≡ 0 → (t ≡ true) × (used + 12 ≤ length b) × (word b 0 ≡ largest → ⊥)
-  unfolding numberWhere
+  accepted : oneMoreNumber t b used w ≡ 0 → (t ≡ true) × (used + 12 ≤ length b) × (word b 0 ≡ largest → ⊥)
+  unfolding oneMoreNumber
   accepted e = go t refl e
     where
       full-or-short : Bool
       full-or-short = ltb (length b) (used + 12) || eqb (word b 0) largest
 
-      go : (x : Bool) → t ≡ x → _≡_ {A = ℕ} (cond x (cond (badSpace w) 2 (cond full-or-short 11 0)) 10) 0
+      go : (x : Bool) → t ≡ x → _≡_ {A = ℕ} (cond (not x) 10 (cond (badSpace w) 2 (cond full-or-short 11 0))) 0
           → (t ≡ true) × (used + 12 ≤ length b) × (word b 0 ≡ largest → ⊥)
       go true d e =
           let (_, r) = passed (badSpace w) 2 (cond full-or-short 11 0) (zero-lt-suc 1) e in
@@ -95,18 +95,22 @@ module _ (t : Bool) (b : List ℕ) (used : ℕ) (w : Write) where
       go false d e = absurd (omega (arith, e))
 
   -- the length answered
-  pub refused-length : (numberWhere t b used w ≡ 0 → ⊥) → 0 ≡ lengthWhere t b used w
-  unfolding lengthWhere
+  pub refused-length : (oneMoreNumber t b used w ≡ 0 → ⊥) → 0 ≡ oneMoreLength t b used w
+  unfolding oneMoreLength
   refused-length n = rw (ne-eqb _ _ n)
 
-  pub accepted-length : numberWhere t b used w ≡ 0 → used + 12 ≡ lengthWhere t b used w
-  unfolding lengthWhere
+  pub accepted-length : oneMoreNumber t b used w ≡ 0 → used + 12 ≡ oneMoreLength t b used w
+  unfolding oneMoreLength
   accepted-length e = rw (eq-eqb _ _ e)
 
 -- a trace fits its header
 pub trace-header : (b : List ℕ) (used : ℕ) → holdsTrace b used ≡ true → holdsHeader b used ≡ true
 unfolding holdsTrace holdsHeader
 trace-header b used e = let (within, trace) = both (leb used (length b)) (isTrace (take used b)) e in rw (within, trace-fitting (take used b) trace)
+
+pub header-there : (b : List ℕ) (used : ℕ) → holdsHeader b used ≡ true → used ≤ length b
+unfolding holdsHeader
+header-there b used e = leb-true _ _ (both (leb used (length b)) (fitsHeader (take used b)) e .0)
 
 -- the first bytes fit their header, and there is room for an entry after them
 pub record Growable (b : List ℕ) (used : ℕ) : Type 0 where
@@ -115,7 +119,7 @@ pub record Growable (b : List ℕ) (used : ℕ) : Type 0 where
   pub room : used + 12 ≤ length b
   pub few : word b 0 ≡ largest → ⊥
 
-pub growable : (t : Bool) (b : List ℕ) (used : ℕ) (w : Write) → (t ≡ true → holdsHeader b used ≡ true) → numberWhere t b used w ≡ 0 → Growable b used
+pub growable : (t : Bool) (b : List ℕ) (used : ℕ) (w : Write) → (t ≡ true → holdsHeader b used ≡ true) → oneMoreNumber t b used w ≡ 0 → Growable b used
 unfolding holdsHeader
 growable t b used w h e =
     let (taken, room, few) = accepted t b used w e in

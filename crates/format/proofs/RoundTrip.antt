@@ -14,7 +14,7 @@ use Rattle.rules.specs.Refusal.{badLength}
 use Rattle.span.specs.Fragments.{Bytes}
 use Rattle.format.specs.Bytes.{word}
 use Rattle.format.specs.Traces.{largest, Delivered, encoded, writes, wellFormed, isTrace, malformed, trace, decoded, decodedUpTo, checkNumber, checkLength, checkPart}
-use Rattle.format.specs.Recording.{startNumber, startLength, started, lengthWhere, appendNumber, appendLength, appended}
+use Rattle.format.specs.Recording.{startNumber, startLength, started, oneMoreLength, appendNumber, appendLength, appended}
 use Rattle.format.proofs.Tested.{traced}
 use Rattle.format.proofs.Checking.{good}
 use Rattle.format.proofs.Encoding.{encoded-writes}
@@ -43,7 +43,7 @@ every-more none d = more d none
 every-more (more e es) d = more e (every-more es d)
 
 -- a buffer that begins with the bytes of a trace
-front : (vram : ℕ) (ws : List Write) (rest : List ℕ) (used : ℕ) → badLength vram ≡ false → length ws ≤ largest → used ≡ 16 + 12 * length ws
+pub front : (vram : ℕ) (ws : List Write) (rest : List ℕ) (used : ℕ) → badLength vram ≡ false → length ws ≤ largest → used ≡ 16 + 12 * length ws
     → take used (encoded vram ws ++ rest) ≡ encoded vram ws
 front vram ws rest used good few e = take-at (encoded vram ws) rest used (length-encoded vram ws good few ∙ sym e)
 
@@ -56,7 +56,7 @@ begin vram b e =
 
 step : {vram : ℕ} {ws : List Write} {b : List ℕ} {used : ℕ} → Holds vram ws b used → (w : Write) → Delivered w → appendNumber b used w ≡ 0
     → Holds vram (ws ++ (w ∷ [])) (appended b used w) (appendLength b used w)
-unfolding appended lengthWhere
+unfolding appended oneMoreLength
 step {vram} {ws} {b} {used} h w d e =
     let z : eqb (appendNumber b used w) 0 ≡ true = eq-eqb _ _ e in
     let a = appendable b used w e in

@@ -75,10 +75,6 @@ traced v e =
     let h = headed v g in
     record { good = g; header = h .header; offset = h .offset; vram = h .vram; total = h .total; whole = whole; entries = t }
 
--- no trace is longer than this
-pub longest : (v : List ℕ) → isTrace v ≡ true → length v ≤ 786448
-longest v e = let t = traced v e in let h = headed v (t .good) in omega (arith, t .whole, t .total, h .few)
-
 -- the header's count is the number of entries
 pub counted : (v : List ℕ) → Traced v → entryCount (drop 16 v) ≡ word v 0
 counted v t = rw length-drop (omega arith)

@@ -9,7 +9,7 @@ use lib.ListN.{drop}
 use borrow.Author.Tests.{eqb-true}
 use Rattle.card.specs.declared.Write.{Write}
 use Rattle.format.specs.Traces.{isTrace, checkNumber, checkPart}
-use Rattle.format.specs.Recording.{startNumber, startLength, numberWhere, lengthWhere, holdsTrace, appendLength, holdsHeader, extendLength}
+use Rattle.format.specs.Recording.{startNumber, startLength, oneMoreNumber, oneMoreLength, holdsTrace, appendLength, holdsHeader, extendLength}
 use Rattle.format.proofs.Checking.{good, bad}
 use Rattle.format.proofs.RecordingTests.{trace-header, growable}
 use Rattle.format.proofs.Growing.{length-below}
@@ -24,11 +24,11 @@ start-fits size vram {n} e = go (eqb (startNumber size vram) 0) e
 
 -- one write more
 module _ (t : Bool) (b : List ℕ) (used : ℕ) (w : Write) (taken : t ≡ true → holdsHeader b used ≡ true) where
-  grown-fits : {n : ℕ} → n ≡ lengthWhere t b used w → n < 2 ^ 32
-  unfolding lengthWhere
-  grown-fits {n} e = go (eqb (numberWhere t b used w) 0) refl e
+  grown-fits : {n : ℕ} → n ≡ oneMoreLength t b used w → n < 2 ^ 32
+  unfolding oneMoreLength
+  grown-fits {n} e = go (eqb (oneMoreNumber t b used w) 0) refl e
     where
-      go : (x : Bool) → eqb (numberWhere t b used w) 0 ≡ x → n ≡ cond x (used + 12) 0 → n < 2 ^ 32
+      go : (x : Bool) → eqb (oneMoreNumber t b used w) 0 ≡ x → n ≡ cond x (used + 12) 0 → n < 2 ^ 32
       go true d e = omega (arith, length-below b used (growable t b used w taken (eqb-true _ _ d)), e)
       go false d e = omega (arith, e)
 

@@ -1,7 +1,7 @@
 -- Change request 6, for traces that arrive. A new reader that allows fewer entries than a header announces answers 10 at the header's
 -- sixteenth byte, and not before; however the bytes are cut into chunks, it ends with 10, no entry applied, no pixel, and the card and the
--- picture as they were. Over any number of entries that is allowed, and then at 4,096. And every trace of before ends, with the number of
--- today, as its run did. For every card and picture. Assumes, where 10 is answered, a VRAM that number 1 does not refuse.
+-- picture as they were. Over any number of entries that is allowed, and then at 4,096. And every old trace ends, with the largest
+-- number now, as its run did. For every card and picture. Assumes, where 10 is answered, a VRAM that number 1 does not refuse.
 use mathlib.Core.Path.{_≡_, refl, ap, _∙_}
 use mathlib.Core.Bool.{true, false}
 use mathlib.Core.List.{List, [], _∷_}
@@ -13,7 +13,7 @@ use Rattle.card.specs.declared.Card.{Card}
 use Rattle.rules.specs.Refusal.{badLength}
 use Rattle.format.specs.Bytes.{word}
 use Rattle.format.specs.Traces.{largest, entryCount, isTraceUpTo, checkPartUpTo}
-use Rattle.format.proofs.Raised.{before, trace-raised, header-refused as announces-more}
+use Rattle.format.proofs.Raised.{oldLargest, trace-raised, header-refused as announces-more}
 use Rattle.trace.specs.Run.{nothing, runUpTo}
 use Rattle.trace.proofs.Raised.{every-old-trace}
 use Rattle.line.specs.Serial.{newReader, Standing, stateOf, complete, sticks, readsUpTo, chunkUpTo, chunks, chunksUpTo, joined, finished, finishedUpTo}
@@ -32,7 +32,7 @@ pub record Refused (m : ℕ) (v : List ℕ) (c : Card) (p : List ℕ) : Type 0 w
   pub not-yet : chunkUpTo m (take 15 v) (fresh c p) .reader .number ≡ 0
   -- with the sixteenth they get 10, and nothing is drawn or changed
   pub at-once : stateOf (chunkUpTo m (take 16 v) (fresh c p)) ≡ nothing 10 c p
-  -- nor is it after all of them, in one or more chunks, and the end call
+  -- and so they end, in one or more chunks, after the end call
   pub ends : (bs : List ℕ) (rest : List (List ℕ)) → joined (bs ∷ rest) ≡ v
       → stateOf (finishedUpTo m (chunksUpTo m (bs ∷ rest) (fresh c p))) ≡ nothing 10 c p
 
@@ -56,16 +56,16 @@ module _ (m : ℕ) (c : Card) (p : List ℕ) (good : badLength (length p) ≡ fa
             ∙ broken m [] (partly 15 v (fresh c p));
       }
 
--- ---- 4,096, and the number of today.
+-- ---- The old largest number and the largest number now.
 
 -- a box that was not updated answers 10 to a longer trace that arrives, at the end of its header, before anything is drawn
-pub longer-trace-arrives : (v : List ℕ) (c : Card) (p : List ℕ) → badLength (length p) ≡ false → 16 ≤ length v → before < word v 0 → Refused before v c p
-longer-trace-arrives v c p good = too-many before c p good v
+pub longer-trace-arrives : (v : List ℕ) (c : Card) (p : List ℕ) → badLength (length p) ≡ false → 16 ≤ length v → oldLargest < word v 0 → Refused oldLargest v c p
+longer-trace-arrives v c p good = too-many oldLargest c p good v
 
 -- bytes that were a trace end as their run did, in one or more chunks, for every budget that covers their entries
-pub every-old-trace-arrives : (v : List ℕ) → isTraceUpTo before v ≡ true → (c : Card) (p bs : List ℕ) (rest : List (List ℕ)) → joined (bs ∷ rest) ≡ v
-    → (budget : ℕ) → entryCount (checkPartUpTo before v) ≤ budget
-    → stateOf (finished (chunks (bs ∷ rest) (fresh c p))) ≡ runUpTo before (checkPartUpTo before v) budget c p
+pub every-old-trace-arrives : (v : List ℕ) → isTraceUpTo oldLargest v ≡ true → (c : Card) (p bs : List ℕ) (rest : List (List ℕ)) → joined (bs ∷ rest) ≡ v
+    → (budget : ℕ) → entryCount (checkPartUpTo oldLargest v) ≤ budget
+    → stateOf (finished (chunks (bs ∷ rest) (fresh c p))) ≡ runUpTo oldLargest (checkPartUpTo oldLargest v) budget c p
 every-old-trace-arrives v e c p bs rest cut budget h =
     let old = every-old-trace v e in
-    one-whole-run v c p bs rest cut budget (trace-raised before largest (omega arith) v e) (omega (arith, h, ap entryCount (old .part))) ∙ old .runs budget c p
+    one-whole-run v c p bs rest cut budget (trace-raised oldLargest largest (omega arith) v e) (omega (arith, h, ap entryCount (old .part))) ∙ old .runs budget c p

@@ -1,10 +1,10 @@
-// Starting a trace in a buffer, and appending to it.
+// Starting a trace in a buffer, appending to it, and extending it.
 ghost use mathlib.Core.Path.{_≡_};
 ghost use mathlib.Core.Bool.{true};
 ghost use Prim.Native.Nat.{_+_, _≤_, _<_};
 ghost use lib.ListN.{length};
 ghost use Rattle.format.specs.Bytes.{word};
-ghost use Rattle.format.specs.Recording.{startNumber, startLength, started, numberWhere, lengthWhere, holdsTrace, appendNumber, appendLength, appended, holdsHeader, extendNumber, extendLength, grown, grownWhere, extended};
+ghost use Rattle.format.specs.Recording.{startNumber, startLength, started, oneMoreNumber, oneMoreLength, holdsTrace, appendNumber, appendLength, appended, holdsHeader, extendNumber, extendLength, grown, oneMoreBuffer, extended};
 ghost use Rattle.format.specs.Traces.{headerSize, entrySize, largest};
 use crate::Length;
 use crate::storing::put_entry;
@@ -73,8 +73,9 @@ fn holds_header(buffer: &[u8], used: usize) -> bool
 }
 
 // The number of one write more, where the first `used` bytes are taken for a trace or not.
-fn number_where(taken: bool, buffer: &[u8], used: usize, w: Write) -> u32
-    ensures { λ r. ⌜ r ≡ numberWhere taken (now (buffer .entry)) used w ⌝ }
+fn one_more_number(taken: bool, buffer: &[u8], used: usize, w: Write) -> u32
+    requires { ⌜ (taken ≡ true → holdsHeader (now buffer) used ≡ true) ⌝ }
+    ensures { λ r. ⌜ r ≡ oneMoreNumber taken (now (buffer .entry)) used w ⌝ }
 {
     if !taken {
         return 10;
@@ -82,11 +83,7 @@ fn number_where(taken: bool, buffer: &[u8], used: usize, w: Write) -> u32
     if bad_space(w) {
         return 2;
     }
-    let n = buffer.len();
-    if n < ENTRY {
-        return 11;
-    }
-    if n - ENTRY < used {
+    if buffer.len() - used < ENTRY {
         return 11;
     }
     let count = word_at(buffer, 0) as usize;
@@ -111,11 +108,11 @@ fn grow(buffer: &mut [u8], used: usize, w: Write)
 fn one_more(taken: bool, buffer: &mut [u8], used: usize, w: Write) -> Length
     requires { ⌜ (taken ≡ true → holdsHeader (now buffer) used ≡ true) ⌝ }
     ensures { λ r. ⌜
-        (r .number ≡ numberWhere taken (now (buffer .entry)) used w)
-        × (r .length ≡ lengthWhere taken (now (buffer .entry)) used w)
-        × (now (buffer .exit) ≡ grownWhere taken (now (buffer .entry)) used w) ⌝ }
+        (r .number ≡ oneMoreNumber taken (now (buffer .entry)) used w)
+        × (r .length ≡ oneMoreLength taken (now (buffer .entry)) used w)
+        × (now (buffer .exit) ≡ oneMoreBuffer taken (now (buffer .entry)) used w) ⌝ }
 {
-    let number = number_where(taken, buffer, used, w);
+    let number = one_more_number(taken, buffer, used, w);
     if number != 0 {
         return Length { number, length: 0 };
     }

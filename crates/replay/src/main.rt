@@ -104,6 +104,7 @@ fn run_file(file: i32, width: usize, held: u8, bytes: &mut [u8], vram: &mut [u8]
 // A byte more than the longest trace has, so that a longer file is told from it.
 const ROOM: usize = LONGEST + 1;
 
+// An array is lent as a slice by a function that has it from its owner.
 fn run_read(file: i32, width: usize, held: u8, bytes: &mut [u8; ROOM], vram: &mut [u8]) {
     run_file(file, width, held, bytes, vram);
 }

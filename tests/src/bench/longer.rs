@@ -61,7 +61,7 @@ const WAYS: [(&str, Way); 5] = [
 pub fn print() -> Result<(), String> {
     let mut maker = Maker::new(Random::of_case(1, 3));
     let writes = damage::without_lines(&mut maker, VRAM, MOST_ENTRIES as usize);
-    println!("\ntraces of mixed entries on a VRAM of {VRAM} bytes: nanoseconds an entry, medians of {ROUNDS} rounds");
+    println!("\ntraces of mixed entries, lines left out, on a VRAM of {VRAM} bytes: nanoseconds an entry, medians of {ROUNDS} rounds");
     let heading = COUNTS.map(|count| format!("{count:>9}"));
     println!("{:<26}{}", "entries", heading.concat());
     for (name, way) in WAYS {

@@ -1,10 +1,11 @@
 //! Counts the calls on traces by the number they answered.
 
 /// Each call, with the numbers that it must have given.
-const CALLS: [(&str, &[u32]); 5] = [
+const CALLS: [(&str, &[u32]); 6] = [
     ("start", &[0, 1, 11]),
     ("append", &[0, 2, 10, 11]),
     ("extend", &[0, 2, 10, 11]),
+    ("extend, where append sees a pad byte", &[0, 2, 11]),
     ("check", &[0, 10]),
     ("run", &[0, 1, 2, 3, 4, 5, 6, 7, 8, 9, 10, 12, 13]),
 ];
@@ -14,16 +15,17 @@ pub enum Call {
     Start,
     Append,
     Extend,
+    ExtendOverPad,
     Check,
     Run,
 }
 
 /// For each call, how often it gave each number.
-pub struct Calls([[u64; 14]; 5]);
+pub struct Calls([[u64; 14]; CALLS.len()]);
 
 impl Calls {
     pub fn new() -> Calls {
-        Calls([[0; 14]; 5])
+        Calls([[0; 14]; CALLS.len()])
     }
 
     pub fn add(&mut self, call: Call, number: u32) {

@@ -26,10 +26,10 @@ const CALLS: limits::Calls = limits::Calls {
     check: engine::check,
     run: engine::run,
     write: engine::write,
-    arrives: |bytes| {
+    arrives: |bytes, vram| {
         let mut reader = engine::reader::Reader::new();
-        let number = reader.chunk(bytes, &mut model::reset(0), &mut [0; 64]);
-        (number, reader.applied)
+        let number = reader.chunk(bytes, &mut model::reset(0), vram);
+        [number, reader.applied, reader.pixels, reader.changed]
     },
 };
 

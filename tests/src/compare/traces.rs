@@ -100,18 +100,21 @@ fn appended(
     used: usize,
     write: Write,
 ) -> Result<(u32, u32), String> {
-    extended(calls, &buffer.model, used, write)?;
+    let extension = extended(calls, &buffer.model, used, write)?;
     let ours = trace::append(&mut buffer.model, used, write);
     let theirs = engine::append(&mut buffer.other, used, write);
     same(&format!("append of {write:X?} at {used}"), &ours, &theirs)?;
     buffer.same("buffer after append")?;
     calls.add(Call::Append, ours.0);
+    if ours.0 == 10 && extension != 10 {
+        calls.add(Call::ExtendOverPad, extension);
+    }
     Ok(ours)
 }
 
 /// Extends a copy of the buffer. The answer is what the model's append gives where every pad byte is zero, and the bytes are those
 /// too, but that no pad byte is looked at or changed.
-fn extended(calls: &mut Calls, buffer: &[u8], used: usize, write: Write) -> Outcome {
+fn extended(calls: &mut Calls, buffer: &[u8], used: usize, write: Write) -> Result<u32, String> {
     let mut lent = Pair::new(buffer.to_vec());
     let before = used.min(buffer.len());
     let pads = (HEADER..before).filter(|at| matches!((at - HEADER) % ENTRY, 2 | 3));
@@ -131,7 +134,7 @@ fn extended(calls: &mut Calls, buffer: &[u8], used: usize, write: Write) -> Outc
     )?;
     lent.same("buffer after extension")?;
     calls.add(Call::Extend, ours.0);
-    Ok(())
+    Ok(ours.0)
 }
 
 /// Appends three entries to bytes that may be a trace already; the third never has room.
@@ -176,7 +179,9 @@ fn run_in_pieces(maker: &mut Maker, calls: &mut Calls, part: &[u8], length: usiz
     let mut from = 0;
     for _ in 0..6 {
         let random = maker.random.below(100) as u32;
-        let budget = maker.random.pick(&[0, 1, 7, 40, random, 4096, u32::MAX]);
+        let budget = maker
+            .random
+            .pick(&[0, 1, 7, 40, random, MOST_ENTRIES as u32, u32::MAX]);
         let ran = run(calls, &part[from..], &mut card, &mut vram, budget)?;
         if ran.number == 10 || ran.number == 1 {
             return Ok(());

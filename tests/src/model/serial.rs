@@ -100,7 +100,7 @@ fn newest_is_wrong(heard: &[u8]) -> bool {
 }
 
 /// Whether a trace begins with this header. If any does, it and zeros up to its total are one, as check lets an entry be all
-/// zeros. A total too long for any trace is cut, one shorter than the header is not met, and check then refuses it.
+/// zeros. A total too long for any trace is cut, one under 16 is taken as 16, and check then refuses it.
 fn begins_trace(header: &[u8]) -> bool {
     let longest = HEADER + ENTRY * MOST_ENTRIES as usize;
     let total = word(header, 12) as usize;

@@ -1,6 +1,6 @@
 -- `recording::writing::extend` meets its contract. Assumes nothing.
 use mathlib.Core.Path.{sym, _∙_}
-use Rattle.format.proofs.Growing.{as-extended}
+use Rattle.format.proofs.Growing.{as-tested}
 use borrow.Author.Needs.{needs}
 use Rattle.recording.proofs.writing.extend.Statement.{statement}
 use Rattle.recording.proofs.writing.extend.Tie as tie
@@ -15,7 +15,7 @@ same-length : tie.Need-same-length
 same-length c = search needs
 
 returns : tie.Need-returns
-returns c = as-extended _ _ _ _ (c .before .before .before .before .holds-header .ensures) (c .before .before .one-more .ensures)
+returns c = as-tested _ _ _ _ _ (c .before .before .before .before .holds-header .ensures) (c .before .before .one-more .ensures)
 
 pub extend-spec : {M : Type 1} → statement M
 extend-spec = tie.close (tie.spec holds-header-requires one-more-requires same-length returns)
