@@ -5,7 +5,7 @@ const CALLS: [(&str, &[u32]); 6] = [
     ("start", &[0, 1, 11]),
     ("append", &[0, 2, 10, 11]),
     ("extend", &[0, 2, 10, 11]),
-    ("extend, where append sees a pad byte", &[0, 2, 11]),
+    ("extend, where append sees a pad byte", &[0, 2]),
     ("check", &[0, 10]),
     ("run", &[0, 1, 2, 3, 4, 5, 6, 7, 8, 9, 10, 12, 13]),
 ];
