@@ -34,6 +34,7 @@ pub struct Row {
 }
 
 // What a register read answers.
+#[repr(C)]
 pub struct Reading {
     pub number: u32,
     pub value: u32,

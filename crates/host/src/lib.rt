@@ -1,14 +1,19 @@
 // What a C program needs, but for a run (crate `host_run`) and a trace that arrives in chunks (crate `host_serial`): the card stands in its memory, and
-// each entry changes it there; and traces are made in its buffer. include/zevkholtai.h declares the functions of all three crates.
+// each entry that changes it changes it there; what it reads; and traces are made in its buffer. include/zevkholtai.h declares the functions of all three crates.
 // Each of the three is compiled by itself. In it one function calls the engine's write; a function with one caller is built into it, so that no card is
 // copied at the call (measured: docs/changes/words.md).
-// What the entries on a card mean stands in the crates `card` (reset) and `answers`, what those on a buffer mean in specs/Buffers.antt.
+// What the entries on a card mean stands in the crates `card` (reset, a register read) and `answers`, read-back in `readback`, a composite in `raster`, what those
+// on a buffer mean in specs/Buffers.antt.
 ghost use mathlib.Core.Path.{_≡_};
+ghost use Rattle.raster.specs.Pixel.{composite};
+ghost use Rattle.card.specs.Access.{reading};
 ghost use Rattle.card.specs.Reset.{resetCard};
+ghost use Rattle.readback.specs.ReadBack.{backNumber};
 ghost use Rattle.answers.specs.Answers.{writeOf, Wrote};
 ghost use Rattle.host.specs.Buffers.{Began, Grew, Extended, Looked};
 use answers::Answer;
 use card::Card;
+use card::Reading;
 use card::Write;
 
 // What starting, appending, extending and checking answer: the number, and a length in bytes.
@@ -50,6 +55,32 @@ pub extern "C" fn zevkholtai_write(
         *card = s.card;
     }
     s.answer
+}
+
+// ---- What is read. None of these can change anything: a card comes by value.
+
+// A register read: number 0 with the value, or 4 with 0.
+#[no_mangle]
+pub extern "C" fn zevkholtai_read(card: Card, offset: u32) -> Reading
+    ensures { λ r. ⌜ r ≡ reading card offset ⌝ }
+{
+    access::read(card, offset)
+}
+
+// The number of a read-back of n pixels, out of a VRAM of that length; C takes the part itself.
+#[no_mangle]
+pub extern "C" fn zevkholtai_read_back(length: usize, address: u32, n: u32) -> u32
+    ensures { λ r. ⌜ r ≡ backNumber length address n ⌝ }
+{
+    readback::number(length, address, n)
+}
+
+// The operation that does at once what a and then b do.
+#[no_mangle]
+pub extern "C" fn zevkholtai_compose(a: u8, b: u8) -> u8
+    ensures { λ r. ⌜ r ≡ composite a b ⌝ }
+{
+    composing::compose(a, b)
 }
 
 // ---- Traces in a buffer.
