@@ -1,7 +1,7 @@
 /* The drawing engine of the DECchip 21030 (TGA card, 8 bits per pixel), for hosts in C and C++. Link libzevkholtai.a.
  *
- * The host keeps the card and its video memory (VRAM) and lends them to each call, but a trace that arrives in chunks takes
- * the card and its reader by value and gives them back. The library keeps nothing, allocates nothing and makes no system
+ * The host keeps the card and its video memory (VRAM) and lends them to each call, but a register read takes the card by
+ * value, and a trace that arrives in chunks takes the card and its reader by value and gives them back. The library keeps nothing, allocates nothing and makes no system
  * call. The caller sees to this: a pointer is valid for the length beside it, and not null also where that is 0; the places
  * lent to one call do not overlap. All else is promised for every input: every pattern of bytes is a card, and a reader.
  *
@@ -48,6 +48,96 @@
 #include <stddef.h>
 #include <stdint.h>
 
+/* Rises with every change of a struct, of a name below or of what a call promises. */
+#define ZEVKHOLTAI_VERSION 1
+
+/* Where a write goes. */
+enum zevkholtai_space {
+    ZEVKHOLTAI_SPACE_FRAME = 0,
+    ZEVKHOLTAI_SPACE_REGISTER = 1
+};
+
+/* The offsets of registers: the address of a write in the register space, and of a read. */
+enum zevkholtai_register {
+    ZEVKHOLTAI_REGISTER_FOREGROUND = 0x0020,
+    ZEVKHOLTAI_REGISTER_BACKGROUND = 0x0024,
+    ZEVKHOLTAI_REGISTER_PLANE_MASK = 0x0028,
+    ZEVKHOLTAI_REGISTER_PIXEL_MASK_ONCE = 0x002C,
+    ZEVKHOLTAI_REGISTER_MODE = 0x0030,
+    ZEVKHOLTAI_REGISTER_RASTER_OPERATION = 0x0034,
+    ZEVKHOLTAI_REGISTER_PIXEL_SHIFT = 0x0038,
+    ZEVKHOLTAI_REGISTER_BRESENHAM_1 = 0x0040,
+    ZEVKHOLTAI_REGISTER_BRESENHAM_2 = 0x0044,
+    ZEVKHOLTAI_REGISTER_BRESENHAM_3 = 0x0048,
+    ZEVKHOLTAI_REGISTER_CONTINUE = 0x004C,
+    ZEVKHOLTAI_REGISTER_PIXEL_MASK = 0x005C,
+    ZEVKHOLTAI_REGISTER_FILL_MASK = 0x0080,
+    ZEVKHOLTAI_REGISTER_BLOCK_COLOUR_0 = 0x0140,
+    ZEVKHOLTAI_REGISTER_BLOCK_COLOUR_1 = 0x0144,
+    ZEVKHOLTAI_REGISTER_BLOCK_COLOUR_2 = 0x0148,
+    ZEVKHOLTAI_REGISTER_BLOCK_COLOUR_3 = 0x014C,
+    ZEVKHOLTAI_REGISTER_BLOCK_COLOUR_4 = 0x0150,
+    ZEVKHOLTAI_REGISTER_BLOCK_COLOUR_5 = 0x0154,
+    ZEVKHOLTAI_REGISTER_BLOCK_COLOUR_6 = 0x0158,
+    ZEVKHOLTAI_REGISTER_BLOCK_COLOUR_7 = 0x015C,
+    ZEVKHOLTAI_REGISTER_COPY_SOURCE = 0x0160,
+    ZEVKHOLTAI_REGISTER_COPY_DESTINATION = 0x0164
+};
+
+/* The values of the mode register. With the cap bit a line draws its last pixel too. */
+enum zevkholtai_mode {
+    ZEVKHOLTAI_MODE_SIMPLE = 0x00,
+    ZEVKHOLTAI_MODE_OPAQUE_STIPPLE = 0x01,
+    ZEVKHOLTAI_MODE_OPAQUE_LINE = 0x02,
+    ZEVKHOLTAI_MODE_TRANSPARENT_STIPPLE = 0x05,
+    ZEVKHOLTAI_MODE_TRANSPARENT_LINE = 0x06,
+    ZEVKHOLTAI_MODE_COPY = 0x07,
+    ZEVKHOLTAI_MODE_BLOCK_STIPPLE = 0x0D,
+    ZEVKHOLTAI_MODE_OPAQUE_FILL = 0x21,
+    ZEVKHOLTAI_MODE_BLOCK_FILL = 0x2D,
+    ZEVKHOLTAI_MODE_TRANSPARENT_FILL = 0x45,
+    ZEVKHOLTAI_MODE_OPAQUE_LINE_CAP = 0x8002,
+    ZEVKHOLTAI_MODE_TRANSPARENT_LINE_CAP = 0x8006
+};
+
+/* The raster operations, as the X Window System names them. */
+enum zevkholtai_operation {
+    ZEVKHOLTAI_OPERATION_CLEAR = 0,
+    ZEVKHOLTAI_OPERATION_AND = 1,
+    ZEVKHOLTAI_OPERATION_AND_REVERSE = 2,
+    ZEVKHOLTAI_OPERATION_COPY = 3,
+    ZEVKHOLTAI_OPERATION_AND_INVERTED = 4,
+    ZEVKHOLTAI_OPERATION_NOOP = 5,
+    ZEVKHOLTAI_OPERATION_XOR = 6,
+    ZEVKHOLTAI_OPERATION_OR = 7,
+    ZEVKHOLTAI_OPERATION_NOR = 8,
+    ZEVKHOLTAI_OPERATION_EQUIV = 9,
+    ZEVKHOLTAI_OPERATION_INVERT = 10,
+    ZEVKHOLTAI_OPERATION_OR_REVERSE = 11,
+    ZEVKHOLTAI_OPERATION_COPY_INVERTED = 12,
+    ZEVKHOLTAI_OPERATION_OR_INVERTED = 13,
+    ZEVKHOLTAI_OPERATION_NAND = 14,
+    ZEVKHOLTAI_OPERATION_SET = 15
+};
+
+/* The numbers answered: see above. */
+enum zevkholtai_number {
+    ZEVKHOLTAI_NUMBER_ACCEPTED = 0,
+    ZEVKHOLTAI_NUMBER_BAD_LENGTH = 1,
+    ZEVKHOLTAI_NUMBER_BAD_SPACE = 2,
+    ZEVKHOLTAI_NUMBER_BAD_LANES = 3,
+    ZEVKHOLTAI_NUMBER_NO_REGISTER = 4,
+    ZEVKHOLTAI_NUMBER_BAD_MODE = 5,
+    ZEVKHOLTAI_NUMBER_BAD_OPERATION = 6,
+    ZEVKHOLTAI_NUMBER_OFF_BOUNDARY = 7,
+    ZEVKHOLTAI_NUMBER_OUTSIDE = 8,
+    ZEVKHOLTAI_NUMBER_NOT_LOADED = 9,
+    ZEVKHOLTAI_NUMBER_MALFORMED = 10,
+    ZEVKHOLTAI_NUMBER_NO_ROOM = 11,
+    ZEVKHOLTAI_NUMBER_BAD_LINE_ERROR = 12,
+    ZEVKHOLTAI_NUMBER_NO_LINE = 13
+};
+
 #ifdef __cplusplus
 extern "C" {
 #endif
@@ -84,7 +174,13 @@ struct zevkholtai_line {
     uint32_t kept; /* a line was accepted */
 };
 
-/* The whole state: 164 bytes, no padding. */
+/* The whole state: 164 bytes, no padding.
+ *
+ * A host saves a card by copying these bytes and restores it by copying them back: they hold no pointer, and all words are
+ * in the processor's byte order, at the offsets that the checks at the end of this file state for this ZEVKHOLTAI_VERSION.
+ * The picture is saved beside it. A card restored with any bytes is safe: every call answers and ends, on it as on any
+ * other, and the planes in bits 7:0 of `held` are held. Where its mode is not listed or its raster operation is over 15,
+ * every write that numbers 1 to 4 let pass answers 5 or 6, until the host resets or restores it; such a card can be read. */
 struct zevkholtai_card {
     struct zevkholtai_registers registers;
     struct zevkholtai_mask mask;
@@ -98,6 +194,11 @@ struct zevkholtai_answer {
     uint32_t count;   /* pixels enabled, whether or not a bit changed; 0 where refused */
     uint32_t changed; /* pixels whose byte is another now: at most count. Where it is 0, every byte of VRAM stayed; the
                        * converse holds but for a line or continue that visits a pixel twice, whose visits count one by one */
+};
+
+struct zevkholtai_reading {
+    uint32_t number;
+    uint32_t value; /* 0 where refused */
 };
 
 struct zevkholtai_checked {
@@ -139,6 +240,19 @@ void zevkholtai_reset(struct zevkholtai_card *card, uint8_t held);
  * every byte of VRAM. A byte outside the write's span or visits, a masked bit and a held plane keep their state. */
 struct zevkholtai_answer zevkholtai_write(struct zevkholtai_card *card, uint8_t space, uint8_t lanes, uint32_t address,
                                           uint32_t data, uint8_t *vram, size_t length);
+
+/* A console's register read: 0 with the value, or 4 with the value 0 where no register has this offset or it can only be
+ * written (004Ch, 0160h, 0164h). Of a value the bits that the register keeps are shown: of the raster operation bits 3:0, of
+ * Bresenham 3 all but bits 14:4. The card comes by value, so a read cannot change it. */
+struct zevkholtai_reading zevkholtai_read(struct zevkholtai_card card, uint32_t offset);
+
+/* A console's read-back of `n` pixels from `address`, out of a VRAM of `length` bytes: 0 where the host may hand it the bytes
+ * vram[address] to vram[address + n - 1]; 1; or 8 where address + n, as whole numbers, exceeds the length. With n = 0 and
+ * address equal to the length it is 0. */
+uint32_t zevkholtai_read_back(size_t length, uint32_t address, uint32_t n);
+
+/* The raster operation that does at once what a and then b do to every pixel, for each source. Of a and b bits 3:0 count. */
+uint8_t zevkholtai_compose(uint8_t a, uint8_t b);
 
 /* Starts a trace for a VRAM of `length` bytes: a header of no writes in the buffer's first 16 bytes. Answers the trace's
  * length; or 1, then 11 where the buffer has under 16 bytes, and the buffer keeps every byte. */
@@ -210,6 +324,7 @@ ZEVKHOLTAI_HOLDS(sizeof(struct zevkholtai_copier) == 72);
 ZEVKHOLTAI_HOLDS(sizeof(struct zevkholtai_line) == 12);
 ZEVKHOLTAI_HOLDS(sizeof(struct zevkholtai_card) == 164);
 ZEVKHOLTAI_HOLDS(sizeof(struct zevkholtai_answer) == 12);
+ZEVKHOLTAI_HOLDS(sizeof(struct zevkholtai_reading) == 8);
 ZEVKHOLTAI_HOLDS(sizeof(struct zevkholtai_checked) == 8);
 ZEVKHOLTAI_HOLDS(sizeof(struct zevkholtai_ran) == 20);
 ZEVKHOLTAI_HOLDS(sizeof(struct zevkholtai_reader) == 44);

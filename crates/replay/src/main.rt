@@ -91,17 +91,25 @@ fn tell(p: Played, width: usize, vram: &[u8]) {
     save(vram, p.length, width);
 }
 
+// Whether reading a file came to its end or to a byte more, where one more read does not fail. A directory cannot be read at all.
+fn is_read(file: i32) -> bool {
+    let mut more = [0u8; 1];
+    if libc::read(file, &mut more) < 0 {
+        os::fail(b"replay: the trace");
+        return false;
+    }
+    true
+}
+
 // The trace in the file, whole.
 fn run_file(file: i32, width: usize, held: u8, bytes: &mut [u8], vram: &mut [u8]) {
     let n = io::read_full(file, bytes);
-    if LONGEST < n {
-        complain(b"the trace is larger than the limit");
-        return;
+    if is_read(file) {
+        tell(player::play(&bytes[..n], held, vram), width, vram);
     }
-    tell(player::play(&bytes[..n], held, vram), width, vram);
 }
 
-// A byte more than the longest trace has, so that a longer file is told from it.
+// A byte more than the longest trace has: so many bytes are no trace, as a longer file is none.
 const ROOM: usize = LONGEST + 1;
 
 // An array is lent as a slice by a function that has it from its owner.
