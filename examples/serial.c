@@ -7,7 +7,6 @@
 #include "zevkholtai.h"
 
 enum { SIDE = 64, SIZE = SIDE * SIDE, CHUNK = 5, BARS = 8 };
-enum { FRAME, REGISTER, FOREGROUND = 0x20, MODE = 0x30, FILL_MASK = 0x80, FILL = 0x45 };
 enum { SETTING = 3, ENTRIES = SETTING + BARS, HEADER = 16, ENTRY = 12 };
 
 static uint8_t trace[HEADER + ENTRY * ENTRIES], ran[SIZE], fed[SIZE];
@@ -28,10 +27,10 @@ static uint32_t record(uint32_t used, uint8_t space, uint32_t address, uint32_t 
 /* A bar of one row for every eight rows. */
 static void record_bars(void) {
     uint32_t used = zevkholtai_start(trace, sizeof trace, SIZE).length;
-    used = record(used, REGISTER, FOREGROUND, 0x40404040);
-    used = record(used, REGISTER, FILL_MASK, 0xFFFFFFFF);
-    used = record(used, REGISTER, MODE, FILL);
-    for (int i = 0; i < BARS; i++) used = record(used, FRAME, 8 * i * SIDE, SIDE - 1);
+    used = record(used, ZEVKHOLTAI_SPACE_REGISTER, ZEVKHOLTAI_REGISTER_FOREGROUND, 0x40404040);
+    used = record(used, ZEVKHOLTAI_SPACE_REGISTER, ZEVKHOLTAI_REGISTER_FILL_MASK, 0xFFFFFFFF);
+    used = record(used, ZEVKHOLTAI_SPACE_REGISTER, ZEVKHOLTAI_REGISTER_MODE, ZEVKHOLTAI_MODE_TRANSPARENT_FILL);
+    for (int i = 0; i < BARS; i++) used = record(used, ZEVKHOLTAI_SPACE_FRAME, 8 * i * SIDE, SIDE - 1);
     promised(used == sizeof trace, "a trace of this length");
 }
 

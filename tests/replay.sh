@@ -1,9 +1,13 @@
 #!/bin/sh
 # The replay as a technician calls it: every recorded trace against its expected picture, from its file and as it arrives on standard input,
-# exit statuses, and what goes wrong.
+# exit statuses, and what goes wrong; and the proved program of that name, which must say the same of every recorded trace and of every trace
+# in the folder DAMAGED: sh replay.sh DAMAGED.
 set -eu
 tests=$(CDPATH='' cd -- "$(dirname -- "$0")" && pwd)
 front=$tests/../zevkholtai
+proved=$tests/../target/bin/replay
+tool=$tests/../target/tools/zevkholtai
+damaged=$1
 room=$(mktemp -d)
 trap 'rm -rf "$room"' EXIT
 passed=0
@@ -141,15 +145,15 @@ case_is x8-009 512 0 477 36285 30602
 case_is x8-015 512 0 491 36434 27020
 
 error_is 'No such file' "$room/missing.trace" "$room/none.pgm"
-error_is 'WIDTH does not divide' "$tests/cases/l8-000.trace" "$room/none.pgm" 7
-error_is 'WIDTH is not 0' "$tests/cases/l8-000.trace" "$room/none.pgm" 0
-error_is 'WIDTH is a decimal number' "$tests/cases/l8-000.trace" "$room/none.pgm" wide
-error_is 'HELD is two hexadecimal digits' "$tests/cases/l8-000.trace" "$room/none.pgm" 8 zz
+error_is 'does not divide' "$tests/cases/l8-000.trace" "$room/none.pgm" 7
+error_is 'is not 0' "$tests/cases/l8-000.trace" "$room/none.pgm" 0
+error_is 'is a decimal number' "$tests/cases/l8-000.trace" "$room/none.pgm" wide
+error_is 'too large' "$tests/cases/l8-000.trace" "$room/none.pgm" 1024
+error_is 'too large' "$tests/cases/l8-000.trace" "$room/none.pgm" 99999999999999999999
+error_is 'is two hexadecimal digits' "$tests/cases/l8-000.trace" "$room/none.pgm" 8 zz
 error_is 'usage' "$tests/cases/l8-000.trace" "$room/none.pgm" 8 00 more
-head -c 786449 /dev/zero >"$room/large.trace"
-error_is 'larger than the limit' "$room/large.trace" "$room/none.pgm"
 
-# the largest number of entries, and one more: from a file it is more than replay reads, arriving it gets 10 at its header
+# the largest number of entries, and one more
 printf '\000\017\000\000\000\000\000\000\021\042\063\104' >"$room/entries"
 for _ in 1 2 3 4 5 6 7 8 9 10 11 12 13 14 15 16 17; do
     cat "$room/entries" "$room/entries" >"$room/twice"
@@ -166,15 +170,18 @@ for entries in 4096 4097 65535 65536; do
     arrives_as long 8 cat "$room/long.trace"
 done
 simple_writes 65537 >"$room/longer.trace"
-error_is 'larger than the limit' "$room/longer.trace" "$room/none.pgm"
 breaks_as '65,537 entries' 0 0 0 0 8 cat "$room/longer.trace"
 
-# a damaged trace answers 10 and leaves no picture
+# a file that is no trace answers 10 and leaves no picture, also where it is longer than any trace
 head -c 100 "$tests/cases/l8-000.trace" >"$room/cut.trace"
-status "$room/cut.trace" "$room/none.pgm" 8
-[ "$got" -eq 1 ] || wrong "a cut trace: exit status $got, not 1"
-[ ! -e "$room/none.pgm" ] || wrong "a cut trace left a picture"
-printf 'number 10\nentries 0\npixels 0\nvram 0\nchanged 0\n' | cmp -s - "$room/out" || wrong "a cut trace: it said $(cat "$room/out")"
+head -c 786449 /dev/zero >"$room/large.trace"
+for name in cut large longer; do
+    status "$room/$name.trace" "$room/none.pgm" 8
+    [ "$got" -eq 1 ] || wrong "$name: exit status $got, not 1"
+    [ ! -e "$room/none.pgm" ] || wrong "$name left a picture"
+    printf 'number 10\nentries 0\npixels 0\nvram 0\nchanged 0\n' | cmp -s - "$room/out" || wrong "$name: it said $(cat "$room/out")"
+    passed=$((passed + 1))
+done
 
 # a trace that arrives in pieces, or with the sender still there after its last byte
 trace=$tests/cases/l8-000.trace
@@ -198,12 +205,46 @@ breaks_as 'a header and no more' 0 0 0 512 8 head -c 16 "$trace"
 breaks_as 'a part of a header' 0 0 0 0 8 head -c 15 "$trace"
 breaks_as 'an endless stream' 0 0 0 0 8 cat /dev/zero
 breaks_as 'no input' 0 0 0 0 8 true
-error_is 'WIDTH does not divide' - "$room/none.pgm" 7 <"$trace"
-error_is 'standard input: Is a directory' - "$room/none.pgm" <"$room"
+error_is 'does not divide' - "$room/none.pgm" 7 <"$trace"
+error_is 'Is a directory' - "$room/none.pgm" <"$room"
+error_is 'Is a directory' "$room" "$room/none.pgm"
 
 # held planes stay zero
-status "$tests/cases/x8-009.trace" "$room/held.pgm" 512 ff
+status "$tests/cases/x8-009.trace" -o "$room/held.pgm" --held ff
 [ "$got" -eq 0 ] || wrong "held planes: exit status $got, not 0"
 [ "$(tail -c 32768 "$room/held.pgm" | tr -d '\000' | wc -c)" -eq 0 ] || wrong "held planes were drawn over"
+
+# The proved program, from the file and as it arrives: what it says, and its picture. 64 divides every length of video memory.
+as_proved() {
+    for from in "$1" -; do
+        rm -f "$room/tool.pgm" "$room/proved.pgm"
+        got=0
+        "$tool" replay "$from" "$room/tool.pgm" 64 <"$1" >"$room/out" 2>"$room/err" || got=$?
+        "$proved" "$from" "$room/proved.pgm" 64 <"$1" >"$room/want" 2>"$room/complaint" || wrong "the proved program crashed on $1"
+        [ ! -s "$room/complaint" ] || wrong "the proved program complains of $1: $(cat "$room/complaint")"
+        cmp -s "$room/out" "$room/want" || wrong "$1 from '$from': the tool says $(cat "$room/out"), the proved program $(cat "$room/want")"
+        [ "$got" -eq 1 ] || [ "$(head -n 1 "$room/out")" = 'number 0' ] || wrong "$1 from '$from': exit status $got"
+        if [ -e "$room/proved.pgm" ]; then
+            cmp -s "$room/tool.pgm" "$room/proved.pgm" || wrong "$1 from '$from': another picture than the proved program's"
+        else
+            [ ! -e "$room/tool.pgm" ] || wrong "$1 from '$from': a picture where the proved program leaves none"
+        fi
+        seen="$seen $(sed -n 's/^number //p' "$room/out")"
+        passed=$((passed + 1))
+    done
+}
+
+seen=
+for trace in "$tests"/cases/*.trace "$tests"/sample/*.trace "$damaged"/*.trace "$room/longer.trace" "$room/large.trace"; do
+    as_proved "$trace"
+done
+for number in 0 8 10; do
+    case "$seen " in
+        *" $number "*) ;;
+        *) wrong "no trace of these answers $number" ;;
+    esac
+done
+if "$proved" "$room" >"$room/out" 2>"$room/err"; then :; fi
+[ ! -s "$room/out" ] && [ -s "$room/err" ] || wrong "the proved program takes a folder for a trace: it said $(cat "$room/out")"
 
 echo "replay: $((passed + 2)) cases as they should be"
