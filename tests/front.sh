@@ -106,6 +106,18 @@ case_is 'the demonstration without a temporary folder' 2 env TMPDIR="$room/missi
 said err 'temporary folder'
 case_is 'the demonstration on a small stack' 0 sh -c 'ulimit -s 1024 && "$1" demo' sh "$front"
 
+# README shows the tools as they answer
+sed -n '/^## A technician/,/^## What is proved/s/^    //p' "$top/README.md" >"$room/shown"
+sed -n 's/^\$ //p' "$room/shown" | while IFS= read -r line; do
+    echo "\$ $line"
+    (cd "$top" && eval "$line") 2>&1 </dev/null || true
+done >"$room/answered"
+for verb in replay list explain show; do
+    grep -q "^\$ ./zevkholtai $verb " "$room/answered" || wrong "README does not show $verb"
+done
+diff "$room/shown" "$room/answered" >&2 || wrong 'README shows other answers'
+passed=$((passed + 1))
+
 # ---- A tree that is not built: the toolchain is a stand-in, which notes what it is asked.
 tree=$room/tree
 mkdir -p "$tree/crates" "$tree/bindings" "$tree/tools" "$room/stand-in"

@@ -1,15 +1,23 @@
 //! Traces whole and damaged.
 
+#[cfg(feature = "engine")]
+mod kinds;
+
+#[cfg(feature = "engine")]
+pub use kinds::{stipples, without_lines};
+
 use crate::generate::Maker;
-use crate::listed::mode;
-use crate::listed::{BRESENHAM_1, BRESENHAM_2, BRESENHAM_3, CONTINUE};
 use crate::model::trace::{self, ENTRY, HEADER, MOST_ENTRIES};
-use crate::model::{self, refusal, Card, Write, REGISTER};
+use crate::model::{self, refusal, Card, Write};
 
 /// Of the refused writes that come up one in so many is taken into a trace, so that runs are long.
+#[cfg(feature = "engine")]
 pub const FEW: u64 = 60;
 /// So rare a refused write does not come up: none is taken.
 pub const NEVER: u64 = u64::MAX;
+
+/// The ways to damage a trace are numbered from 0.
+pub const WAYS: u64 = 8;
 
 /// Makes the next write for a card and a VRAM length.
 type Next = fn(&mut Maker, &Card, usize) -> Write;
@@ -17,53 +25,6 @@ type Next = fn(&mut Maker, &Card, usize) -> Write;
 /// Writes of every kind for a trace from reset.
 pub fn writes(maker: &mut Maker, length: usize, entries: usize, rare: u64) -> Vec<Write> {
     list(maker, Maker::write, length, entries, rare)
-}
-
-/// Accepted writes for a trace from reset that libraries from before Ask 5 can take too: no lines, and none of their registers.
-pub fn without_lines(maker: &mut Maker, length: usize, entries: usize) -> Vec<Write> {
-    list(maker, no_line, length, entries, NEVER)
-}
-
-fn no_line(maker: &mut Maker, card: &Card, length: usize) -> Write {
-    loop {
-        let write = maker.write(card, length);
-        let of_lines = match write.address {
-            BRESENHAM_1 | BRESENHAM_2 | BRESENHAM_3 | CONTINUE => true,
-            0x0030 => mode::is_line(write.data),
-            _ => false,
-        };
-        if write.space != REGISTER || !of_lines {
-            return write;
-        }
-    }
-}
-
-/// Opaque stipples for a trace from reset, and the register writes that they go by.
-pub fn stipples(maker: &mut Maker, length: usize, entries: usize, rare: u64) -> Vec<Write> {
-    list(maker, stipple_or_setting, length, entries, rare)
-}
-
-fn stipple_or_setting(maker: &mut Maker, card: &Card, length: usize) -> Write {
-    let wanted = maker.stipple_card();
-    let settings = [
-        (0x0020, wanted.foreground),
-        (0x0024, wanted.background),
-        (0x0028, wanted.plane),
-        (0x002C, wanted.pixel),
-        (0x0034, wanted.raster),
-        (0x005C, wanted.pixel),
-    ];
-    let (address, data) = match card.mode {
-        mode::OPAQUE_STIPPLE if maker.random.one_in(2) => return maker.stipple(card, length),
-        mode::OPAQUE_STIPPLE => maker.random.pick(&settings),
-        _ => (0x0030, mode::OPAQUE_STIPPLE),
-    };
-    Write {
-        space: REGISTER,
-        lanes: 15,
-        address,
-        data,
-    }
 }
 
 /// Made on a model card as it goes; one in `rare` refused writes is taken, all on a VRAM that 1 forbids.
@@ -93,9 +54,16 @@ pub fn whole(length: usize, writes: &[Write]) -> Vec<u8> {
 }
 
 /// A trace with one thing wrong, or by chance still whole.
+#[cfg(feature = "engine")]
 pub fn damaged(maker: &mut Maker, bytes: &[u8]) -> Vec<u8> {
+    let way = maker.random.below(WAYS);
+    damaged_in(maker, bytes, way)
+}
+
+/// The same, in the way of this number.
+pub fn damaged_in(maker: &mut Maker, bytes: &[u8], way: u64) -> Vec<u8> {
     let mut bad = bytes.to_vec();
-    match maker.random.below(8) {
+    match way {
         0 => bad.truncate(maker.random.below(bytes.len() as u64 + 1) as usize),
         1 => {
             let more = 1 + maker.random.below(2 * ENTRY as u64) as usize;

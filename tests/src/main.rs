@@ -1,6 +1,7 @@
 //! `model`: the reference model alone, on the scope paper's samples, the limits of traces, the recorded traces, the sample trace and a textbook's lines, and
 //! the plain implementation against it.
 //! `sample FILE`: writes the sample trace.
+//! `damaged FOLDER [COUNT]`: writes numbered trace files, whole, damaged and refused.
 //! `compare [SEED [FIRST [LAST]]]`: the model against the engine (feature `engine`), on numbered random cases: all of them, the
 //! one case FIRST, or those from FIRST to LAST.
 //! `bench`: the engine's speed (feature `engine`) beside the plain implementation's and, with the feature `other`, beside that of
@@ -11,8 +12,8 @@ mod bedside;
 mod bench;
 mod compare;
 mod coverage;
-#[cfg(feature = "engine")]
 mod damage;
+mod damaged_files;
 #[cfg(feature = "engine")]
 mod engine;
 mod fast;
@@ -21,6 +22,8 @@ mod limits;
 mod lines;
 mod listed;
 mod model;
+#[cfg(feature = "engine")]
+mod names;
 mod random;
 mod recorded;
 mod samples;
@@ -29,7 +32,8 @@ mod tables;
 use std::env;
 use std::process::ExitCode;
 
-const USE: &str = "use: model, sample FILE, compare [SEED [FIRST [LAST]]], or bench";
+const USE: &str =
+    "use: model, sample FILE, damaged FOLDER [COUNT], compare [SEED [FIRST [LAST]]], or bench";
 
 fn main() -> ExitCode {
     let words: Vec<String> = env::args().skip(1).collect();
@@ -37,6 +41,10 @@ fn main() -> ExitCode {
     let outcome = match words[..] {
         ["model"] => check_model(),
         ["sample", path] => bedside::save(path),
+        ["damaged", folder] => damaged_files::save(folder, damaged_files::COUNT),
+        ["damaged", folder, count] => {
+            whole_number(count).and_then(|count| damaged_files::save(folder, count))
+        }
         ["compare", ref numbers @ ..] if numbers.len() <= 3 => check_engine(numbers),
         ["bench"] => measure_engine(),
         _ => Err(String::from(USE)),
@@ -48,6 +56,10 @@ fn main() -> ExitCode {
             ExitCode::FAILURE
         }
     }
+}
+
+fn whole_number(word: &str) -> Result<u64, String> {
+    word.parse().map_err(|_| format!("{word} is not a number"))
 }
 
 fn check_model() -> Result<(), String> {
@@ -85,7 +97,7 @@ fn check_engine(words: &[&str]) -> Result<(), String> {
     use compare::CASES;
     let number = |i: usize, default: u64| match words.get(i) {
         None => Ok(default),
-        Some(word) => word.parse().map_err(|_| format!("{word} is not a number")),
+        Some(word) => whole_number(word),
     };
     let first = number(1, 0)?;
     let last = number(2, if words.len() > 1 { first } else { CASES - 1 })?;

@@ -1,7 +1,7 @@
 //! The drawing engine of the DECchip 21030 (TGA card, 8 bits per pixel), for hosts in Rust: safe calls of the proved library.
 //! include/zevkholtai.h says what each promises. A host keeps the card and its video memory, and lends them to each call:
 //!
-//! ```no_run
+//! ```
 //! use zevkholtai::{mode, register, Card, Write};
 //!
 //! let mut vram = vec![0; 65_536];

@@ -1,11 +1,10 @@
 //! The libraries that are measured: this tree's and, with the feature `other`, another commit's. A card may be laid out
 //! differently in each, so it is a block of memory here, which only its own library reads and changes.
 
-use crate::engine::card::Card;
-use crate::engine::entries;
 use crate::model::{Answer, Write};
 use std::ffi::c_void;
 use std::ptr::from_mut;
+use zevkholtai::{entries, Card};
 
 /// A library's entries. A card must be one of that library.
 pub trait Library: Copy {
@@ -23,7 +22,7 @@ macro_rules! library {
             const CHANGED: bool = $changed;
 
             unsafe fn reset(self, card: *mut c_void, held: u8) {
-                $reset(card, held)
+                $reset(card.cast(), held)
             }
 
             unsafe fn write(self, card: *mut c_void, write: Write, vram: &mut [u8]) -> Answer {
@@ -34,13 +33,21 @@ macro_rules! library {
                     data,
                 } = write;
                 let (place, length) = (vram.as_mut_ptr(), vram.len());
-                $answers::answer($write(card, space, lanes, address, data, place, length))
+                $answers::answer($write(
+                    card.cast(),
+                    space,
+                    lanes,
+                    address,
+                    data,
+                    place,
+                    length,
+                ))
             }
 
             unsafe fn run(self, card: *mut c_void, part: &[u8], vram: &mut [u8]) -> Answer {
                 let (place, length) = (vram.as_mut_ptr(), vram.len());
                 $answers::total($run(
-                    card,
+                    card.cast(),
                     part.as_ptr(),
                     part.len(),
                     place,
@@ -54,8 +61,8 @@ macro_rules! library {
 
 /// Answers of a library that counts the pixels changed.
 mod with_changed {
-    pub use crate::engine::entries::{Answer, Ran};
     use crate::model;
+    pub use zevkholtai::{Answer, Ran};
 
     pub fn answer(answer: Answer) -> model::Answer {
         model::Answer {

@@ -5,13 +5,12 @@ use super::rows::{Row, VRAM};
 use super::side::{added, same_answer, NONE};
 use super::timing::{timed, Times};
 use crate::damage;
-use crate::engine::card::Card;
-use crate::engine::reader::{fed, Fed, Reader};
 use crate::fast;
 use crate::generate::Maker;
 use crate::model::trace::HEADER;
-use crate::model::{self, Answer, Write};
+use crate::model::{Answer, Write};
 use crate::random::Random;
+use zevkholtai::{Card, Fed, Reader};
 
 /// The longest trace that libraries from before Ask 6 take too.
 pub const ENTRIES: usize = 4_096;
@@ -87,13 +86,13 @@ pub fn measure(row: &Row, way: Way) -> Result<Times, String> {
 pub(super) fn read(bytes: &[u8], size: usize, vram: &mut [u8]) -> Answer {
     let mut line = Fed {
         reader: Reader::new(),
-        card: Card::from(&model::reset(0)),
+        card: Card::reset(0),
     };
     for chunk in bytes.chunks(size) {
-        line = fed(line.reader, line.card, chunk, vram);
+        line = line.reader.chunk(line.card, chunk, vram);
     }
     Answer {
-        number: line.reader.end(),
+        number: line.reader.end().number,
         pixels: line.reader.pixels,
         changed: line.reader.changed,
     }

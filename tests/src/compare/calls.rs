@@ -1,13 +1,18 @@
-//! Counts the calls on traces by the number they answered.
+//! Counts the calls on traces, on restored cards and on no card by the number they answered.
 
 /// Each call, with the numbers that it must have given.
-const CALLS: [(&str, &[u32]); 6] = [
-    ("start", &[0, 1, 11]),
-    ("append", &[0, 2, 10, 11]),
-    ("extend", &[0, 2, 10, 11]),
-    ("extend, where append sees a pad byte", &[0, 2]),
-    ("check", &[0, 10]),
-    ("run", &[0, 1, 2, 3, 4, 5, 6, 7, 8, 9, 10, 12, 13]),
+const CALLS: [(&str, &[u32]); 11] = [
+    ("trace start", &[0, 1, 11]),
+    ("trace append", &[0, 2, 10, 11]),
+    ("trace extend", &[0, 2, 10, 11]),
+    ("trace extend, where append sees a pad byte", &[0, 2]),
+    ("trace check", &[0, 10]),
+    ("trace run", &[0, 1, 2, 3, 4, 5, 6, 7, 8, 9, 10, 12, 13]),
+    ("read of a restored card", &[0, 4]),
+    ("write on a restored card", &[0, 5, 6]),
+    ("write on a restored card of a bad mode", &[5]),
+    ("write on a restored card of a bad operation", &[6]),
+    ("read-back", &[0, 1, 8]),
 ];
 
 #[derive(Clone, Copy)]
@@ -18,6 +23,11 @@ pub enum Call {
     ExtendOverPad,
     Check,
     Run,
+    Read,
+    Write,
+    WriteBadMode,
+    WriteBadOperation,
+    ReadBack,
 }
 
 /// For each call, how often it gave each number.
@@ -40,7 +50,7 @@ impl Calls {
                 .filter(|(_, &count)| count > 0)
                 .map(|(n, count)| format!("{n}: {count}"))
                 .collect();
-            println!("trace {name}: {}", cells.join(", "));
+            println!("{name}: {}", cells.join(", "));
         }
     }
 
@@ -52,7 +62,7 @@ impl Calls {
                 .iter()
                 .filter(|&&number| counts[number as usize] == 0)
             {
-                missing.push(format!("trace {name}, number {number}"));
+                missing.push(format!("{name}, number {number}"));
             }
         }
         missing

@@ -1,16 +1,18 @@
-//! The engine against the model: the recorded traces, samples by hand, the limits of traces and a textbook's lines, then numbered cases of writes of every kind, of opaque
-//! stipples, of traces, of calipers, of serial lines and of waveform lines.
+//! The engine against the model: the names of the header, the recorded traces, samples by hand, the limits of traces and a textbook's lines, then numbered cases of writes of every kind, of opaque
+//! stipples, of traces, of calipers, of serial lines, of waveform lines and of restored cards.
 
 use super::calls::Calls;
 use super::serial::{self, Met};
-use super::{all_reached, caliper, traces, writes, Other, Outcome};
-use super::{CASES, FIRST_CALIPER, FIRST_LINES, FIRST_SERIAL, WRITE_CASES};
+use super::{all_reached, caliper, reads, traces, writes, Other, Outcome};
+use super::{CASES, FIRST_CALIPER, FIRST_LINES, FIRST_READS, FIRST_SERIAL, WRITE_CASES};
 use crate::coverage::Coverage;
 use crate::engine;
+use crate::engine::reader::{self, Reader};
 use crate::generate::Maker;
 use crate::limits;
 use crate::lines;
 use crate::model;
+use crate::names;
 use crate::random::Random;
 use crate::recorded;
 use crate::samples;
@@ -27,14 +29,16 @@ const CALLS: limits::Calls = limits::Calls {
     run: engine::run,
     write: engine::write,
     arrives: |bytes, vram| {
-        let mut reader = engine::reader::Reader::new();
-        let number = reader.chunk(bytes, &mut model::reset(0), vram);
+        let mut reader = Reader::new();
+        let number = reader::chunk(&mut reader, bytes, &mut model::reset(0), vram);
         [number, reader.applied, reader.pixels, reader.changed]
     },
 };
 
 /// Runs the cases from first to last; coverage is judged only where all of them ran.
 pub fn compare(seed: u64, first: u64, last: u64) -> Outcome {
+    let named = names::check_all()?;
+    println!("{named} names of the header as the bindings and the library have them");
     let recorded = recorded::check_all(engine::run)?;
     println!("{recorded} recorded traces give their pictures on the engine");
     let samples = samples::check_writes(engine::write)?;
@@ -58,8 +62,10 @@ pub fn compare(seed: u64, first: u64, last: u64) -> Outcome {
             caliper::case(&mut maker, &mut shown)
         } else if case < FIRST_LINES {
             serial::case(&mut maker, &mut met, case - FIRST_SERIAL)
-        } else {
+        } else if case < FIRST_READS {
             writes::lines(&ENGINE, &mut maker, &mut coverage)
+        } else {
+            reads::case(&mut maker, &mut calls, case - FIRST_READS)
         };
         outcome.map_err(|why| {
             format!(

@@ -8,6 +8,8 @@ mod calls;
 pub mod engine;
 pub mod plain;
 #[cfg(feature = "engine")]
+mod reads;
+#[cfg(feature = "engine")]
 mod serial;
 #[cfg(feature = "engine")]
 mod traces;
@@ -17,12 +19,15 @@ use crate::generate::Maker;
 use crate::model::{self, Answer, Card, Write};
 use std::fmt::Debug;
 
-/// Cases below this number are runs of writes and of stipples. Then come traces, calipers, serial lines and, last, waveform lines.
+/// Cases below this number are runs of writes and of stipples. Then come traces, calipers, serial lines, waveform lines and, last,
+/// restored cards with the calls that only read. New kinds go to the end, so that no case gets another number.
 const WRITE_CASES: u64 = writes::FIRST_STIPPLES + 700;
 const FIRST_CALIPER: u64 = WRITE_CASES + 4_000;
 const FIRST_SERIAL: u64 = FIRST_CALIPER + 1_000;
 const FIRST_LINES: u64 = FIRST_SERIAL + 3_000;
-pub const CASES: u64 = FIRST_LINES + 300;
+const FIRST_READS: u64 = FIRST_LINES + 300;
+#[cfg(feature = "engine")]
+pub const CASES: u64 = FIRST_READS + 300;
 
 type Outcome = Result<(), String>;
 

@@ -115,6 +115,18 @@ fn one_write(
     vram: &mut Pair,
     write: Write,
 ) -> Result<Card, String> {
+    let (after, answer) = made(other, card, vram, write)?;
+    coverage.write(card, vram.model.len(), write, answer);
+    Ok(after)
+}
+
+/// One write on both sides, and the card that it leaves on both.
+pub(super) fn made(
+    other: &Other,
+    card: &Card,
+    vram: &mut Pair,
+    write: Write,
+) -> Result<(Card, Answer), String> {
     let mut ours = card.clone();
     let mut theirs = card.clone();
     let answer = model::write(&mut ours, &mut vram.model, write);
@@ -129,8 +141,7 @@ fn one_write(
                 vram.model.len()
             )
         })?;
-    coverage.write(card, vram.model.len(), write, answer);
-    Ok(ours)
+    Ok((ours, answer))
 }
 
 /// Ask 4: "never above the enabled count".

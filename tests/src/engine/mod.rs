@@ -1,34 +1,37 @@
-//! Safe wrappers over the C interface of the engine's static library. They take and give the model's types, so that both sides
-//! can be compared whole.
+//! The library's calls. They take and give the model's types, so that both sides can be compared whole.
 
-pub mod card;
-pub mod entries;
+mod card;
 pub mod reader;
 
 use crate::model::{self, trace, Answer, Write};
-use card::Card;
-use std::ptr::from_mut;
+pub use zevkholtai::{compose, read_back};
+use zevkholtai::{Card, Checked};
 
 /// The card that reset leaves, whatever card stood there before.
 pub fn reset(before: &model::Card, held: u8) -> model::Card {
     let mut card = Card::from(before);
-    unsafe { entries::zevkholtai_reset(from_mut(&mut card).cast(), held) };
+    card.set_at_reset(held);
     model::Card::from(&card)
+}
+
+fn bus(write: Write) -> zevkholtai::Write {
+    let Write {
+        space,
+        lanes,
+        address,
+        data,
+    } = write;
+    zevkholtai::Write {
+        space,
+        lanes,
+        address,
+        data,
+    }
 }
 
 pub fn write(card: &mut model::Card, vram: &mut [u8], write: Write) -> Answer {
     let mut lent = Card::from(&*card);
-    let answer = unsafe {
-        entries::zevkholtai_write(
-            from_mut(&mut lent).cast(),
-            write.space,
-            write.lanes,
-            write.address,
-            write.data,
-            vram.as_mut_ptr(),
-            vram.len(),
-        )
-    };
+    let answer = lent.write(bus(write), vram);
     *card = model::Card::from(&lent);
     Answer {
         number: answer.number,
@@ -37,49 +40,34 @@ pub fn write(card: &mut model::Card, vram: &mut [u8], write: Write) -> Answer {
     }
 }
 
-pub fn start(buffer: &mut [u8], length: u32) -> (u32, u32) {
-    let checked = unsafe { entries::zevkholtai_start(buffer.as_mut_ptr(), buffer.len(), length) };
+pub fn read(card: &model::Card, offset: u32) -> (u32, u32) {
+    let reading = Card::from(card).read(offset);
+    (reading.number, reading.value)
+}
+
+fn pair(checked: Checked) -> (u32, u32) {
     (checked.number, checked.length)
 }
 
-/// One write more, by either of the two entries for it.
-macro_rules! one_more {
-    ($name:ident, $entry:ident) => {
-        pub fn $name(buffer: &mut [u8], used: usize, write: Write) -> (u32, u32) {
-            let (place, size) = (buffer.as_mut_ptr(), buffer.len());
-            let Write {
-                space,
-                lanes,
-                address,
-                data,
-            } = write;
-            let checked =
-                unsafe { entries::$entry(place, size, used, space, lanes, address, data) };
-            (checked.number, checked.length)
-        }
-    };
+pub fn start(buffer: &mut [u8], length: u32) -> (u32, u32) {
+    pair(zevkholtai::start(buffer, length))
 }
 
-one_more!(append, zevkholtai_append);
-one_more!(extend, zevkholtai_extend);
+pub fn append(buffer: &mut [u8], used: usize, write: Write) -> (u32, u32) {
+    pair(zevkholtai::append(buffer, used, bus(write)))
+}
+
+pub fn extend(buffer: &mut [u8], used: usize, write: Write) -> (u32, u32) {
+    pair(zevkholtai::extend(buffer, used, bus(write)))
+}
 
 pub fn check(bytes: &[u8]) -> (u32, u32) {
-    let checked = unsafe { entries::zevkholtai_check(bytes.as_ptr(), bytes.len()) };
-    (checked.number, checked.length)
+    pair(zevkholtai::check(bytes))
 }
 
 pub fn run(part: &[u8], card: &mut model::Card, vram: &mut [u8], budget: u32) -> trace::Ran {
     let mut lent = Card::from(&*card);
-    let ran = unsafe {
-        entries::zevkholtai_run(
-            from_mut(&mut lent).cast(),
-            part.as_ptr(),
-            part.len(),
-            vram.as_mut_ptr(),
-            vram.len(),
-            budget,
-        )
-    };
+    let ran = lent.run(part, vram, budget);
     *card = model::Card::from(&lent);
     trace::Ran {
         number: ran.number,

@@ -5,7 +5,7 @@ use super::met::Met;
 use super::{forbidden, start};
 use crate::compare::{same, same_bytes, Outcome};
 use crate::damage;
-use crate::engine::reader::Reader;
+use crate::engine::reader::{self, Reader};
 use crate::generate::Maker;
 use crate::model::refusal::bad_length;
 use crate::model::trace::{self, ENTRY, HEADER, MOST_ENTRIES};
@@ -123,7 +123,7 @@ fn ended(reader: &Reader) -> Outcome {
     let complete = reader.opened != 0 && reader.applied == reader.announced;
     let number = at_sight(reader).unwrap_or(if complete { 0 } else { 10 });
     let mut given = *reader;
-    given.end();
+    reader::end(&mut given);
     same("end call", &Reader { number, ..*reader }, &given)
 }
 
@@ -139,7 +139,7 @@ fn fed(
     let mut given = *reader;
     let mut card = start.card.clone();
     let mut picture = start.picture.clone();
-    given.chunk(&bytes[from..], &mut card, &mut picture);
+    reader::chunk(&mut given, &bytes[from..], &mut card, &mut picture);
     let forbidden = bad_length(lent as u64).then_some(1);
     if let Some(number) = at_sight(reader).or(forbidden) {
         same("reader", &Reader { number, ..*reader }, &given)?;

@@ -2,7 +2,7 @@
 
 use super::met::{Call, Met};
 use crate::compare::{same, same_bytes, Outcome, Pair};
-use crate::engine::reader::Reader;
+use crate::engine::reader::{self, Reader};
 use crate::model::{serial, trace, Card};
 use std::mem;
 
@@ -74,8 +74,8 @@ impl Start {
         let mut reader = Reader::new();
         let mut card = self.card.clone();
         let mut picture = self.picture.clone();
-        reader.chunk(bytes, &mut card, &mut picture);
-        let number = reader.end();
+        reader::chunk(&mut reader, bytes, &mut card, &mut picture);
+        let number = reader::end(&mut reader);
         let standing = Standing {
             numbers: [number, reader.applied, reader.pixels, reader.changed],
             card,
@@ -121,9 +121,8 @@ impl Line<'_> {
         let ours = self
             .ours
             .chunk(bytes, &mut self.cards.0, &mut self.vram.model);
-        let theirs = self
-            .theirs
-            .chunk(bytes, &mut self.cards.1, &mut self.vram.other);
+        let (card, picture) = (&mut self.cards.1, &mut self.vram.other);
+        let theirs = reader::chunk(&mut self.theirs, bytes, card, picture);
         self.answered(Some(bytes.len()), ours, theirs)
     }
 
@@ -137,7 +136,7 @@ impl Line<'_> {
 
     pub fn end(&mut self) -> Outcome {
         let ours = self.ours.end();
-        let theirs = self.theirs.end();
+        let theirs = reader::end(&mut self.theirs);
         self.answered(None, ours, theirs)?;
         self.ended |= ours == 0;
         Ok(())
