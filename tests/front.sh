@@ -198,6 +198,10 @@ said out '^number 0$'
 cp "$room/out" "$room/tool-said"
 case_is 'the installed proved replay' 0 another "$room/prefix/bin/zevkholtai-replay" "$sample"
 cmp -s "$room/out" "$room/tool-said" || wrong 'the installed programs say different things'
+case_is 'the installed proved replay on a stack that may grow' 0 sh -c 'ulimit -S -s 1024 && "$1" "$2"' sh "$room/prefix/bin/zevkholtai-replay" "$sample"
+cmp -s "$room/out" "$room/tool-said" || wrong 'on a stack that may grow the proved replay says another thing'
+case_is 'the installed proved replay on a small stack' 2 sh -c 'ulimit -s 1024 && "$1" "$2"' sh "$room/prefix/bin/zevkholtai-replay" "$sample"
+said err 'needs a stack of 4096 KB'
 case_is 'an installed demonstration' 0 another "$room/prefix/bin/zevkholtai-demo"
 case_is 'an installed explanation' 0 another "$room/prefix/bin/zevkholtai" explain 8
 case_is 'the installed manual page' 0 another cat "$room/prefix/share/man/man1/zevkholtai.1"
