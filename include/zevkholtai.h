@@ -1,9 +1,10 @@
 /* The drawing engine of the DECchip 21030 (TGA card, 8 bits per pixel), for hosts in C and C++. Link libzevkholtai.a.
  *
  * The host keeps the card and its video memory (VRAM) and lends them to each call, but a register read takes the card by
- * value, and a trace that arrives in chunks takes the card and its reader by value and gives them back. The library keeps nothing, allocates nothing and makes no system
- * call. The caller sees to this: a pointer is valid for the length beside it, and not null also where that is 0; the places
- * lent to one call do not overlap. All else is promised for every input: every pattern of bytes is a card, and a reader.
+ * value, and a trace that arrives in chunks takes the card and its reader by value and gives them back. The library keeps
+ * nothing, allocates nothing and makes no system call. The caller sees to this: a pointer is valid for the length beside
+ * it, and not null also where that is 0; the places lent to one call do not overlap. All else is promised for every input:
+ * every pattern of bytes is a card, and a reader.
  *
  * Every answer has a number, the lowest that applies, but 10 comes before all others; for a trace that arrives in chunks see
  * zevkholtai_chunk:

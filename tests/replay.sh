@@ -223,7 +223,9 @@ as_proved() {
         "$proved" "$from" "$room/proved.pgm" 64 <"$1" >"$room/want" 2>"$room/complaint" || wrong "the proved program crashed on $1"
         [ ! -s "$room/complaint" ] || wrong "the proved program complains of $1: $(cat "$room/complaint")"
         cmp -s "$room/out" "$room/want" || wrong "$1 from '$from': the tool says $(cat "$room/out"), the proved program $(cat "$room/want")"
-        [ "$got" -eq 1 ] || [ "$(head -n 1 "$room/out")" = 'number 0' ] || wrong "$1 from '$from': exit status $got"
+        accepted=1
+        [ "$(head -n 1 "$room/out")" != 'number 0' ] || accepted=0
+        [ "$got" -eq "$accepted" ] || wrong "$1 from '$from': exit status $got, not $accepted"
         if [ -e "$room/proved.pgm" ]; then
             cmp -s "$room/tool.pgm" "$room/proved.pgm" || wrong "$1 from '$from': another picture than the proved program's"
         else

@@ -302,13 +302,13 @@ vram 4096
    32: register continue 1234ABCDh         | 13 0 | line mask ABCDh, with no line before it; refused, 13: a continue comes before any accepted line; after the run's end at entry 27
    33: register bresenham-1 0001FFFEh      | 0 0 | address step 1, error step -2; after the run's end at entry 27
    34: register bresenham-2 FF800007h      | 0 0 | address step -128, error step 7; after the run's end at entry 27
-   35: register bresenham-3 FFFF8009h      | 0 0 | error -1, 9 pixels; after the run's end at entry 27
+   35: register bresenham-3 FFFF8009h      | 0 0 | error -1, 9 places; after the run's end at entry 27
    36: frame 00000100h 0003FFFFh           | 0 9 | opaque line cap, 9 places from 259; after the run's end at entry 27
    37: register continue 0000FFFFh         | 0 16 | line mask FFFFh, 16 places from 268; after the run's end at entry 27
-   38: register bresenham-3 00008001h      | 0 0 | error 1, 1 pixel; after the run's end at entry 27
-   39: register bresenham-3 7FFF8000h      | 0 0 | error 65535, 16 pixels; after the run's end at entry 27
+   38: register bresenham-3 00008001h      | 0 0 | error 1, 1 place; after the run's end at entry 27
+   39: register bresenham-3 7FFF8000h      | 0 0 | error 65535, 16 places; after the run's end at entry 27
    40: frame 00000800h 00000000h           | 12 0 | opaque line cap, 16 places from 2048; refused, 12: the error of a line or a continue lies outside signed 16 bits; after the run's end at entry 27
-   41: register bresenham-3 80000000h      | 0 0 | error -65536, 16 pixels; after the run's end at entry 27
+   41: register bresenham-3 80000000h      | 0 0 | error -65536, 16 places; after the run's end at entry 27
    42: frame 00000FF8h 00000000h           | 8 0 | opaque line cap, 16 places from 4088; refused, 8: a place that the line visits lies outside video memory; after the run's end at entry 27
    43: frame FFFFFFFCh 00030000h           | 8 0 | opaque line cap, 16 places from 4294967295; refused, 8: a place that the line visits lies outside video memory; after the run's end at entry 27
    44: frame 00000002h 00000000h           | 7 0 | opaque line cap, 16 places from 2; refused, 7: the address is off its boundary; after the run's end at entry 27
@@ -362,7 +362,7 @@ refused_as '4: there is no such register (register 00000021h = 00000007h)' 'regi
 refused_as '6: a raster operation has any of bits 11:8 set, or a pixel shift any of bits 3:0 (register pixel shift = 00000001h)' \
     'register pixel-shift 1' 'register fill-mask 1' 'register plane-mask 0'
 refused_as '13: a continue comes before any accepted line (register continue = 00000000h)' 'register continue 0' 'register mode 2'
-says 1 "$(went 2 0 0 64 0)" 'entry 0 refused, 2: the space is not 0 (frame) or 1 (register), or the lanes exceed 15 (space 7, 00000001h = 00000002h)' \
+says 1 "$(went 2 0 0 64 0)" 'entry 0 refused, 2: the space is not 0 (frame) or 1 (register), or the lanes exceed 15 (space 7, 00000001h = 00000002h, lanes 16)' \
     replay space.trace
 
 # --- what is wrong with bytes that are no trace
@@ -638,8 +638,14 @@ recorded d.trace 'vram 128' 'frame 80 0' 'frame 10 44332211' 'frame 20 01010101'
 says 1 'entries: 3 and 3, the first that differs is 0
 A     0: register plane-mask FFFFFFFFh       | 0 0 | FF FF FF FF
 B     0: frame 00000080h 00000000h           | 8 0 | simple, 4 pixels from 128; refused, 8: a pixel of the span lies outside video memory; a run ends here
-answers: number 0 and 8
+answers: number 0 and 8, the first that differs is of entry 0 (register plane mask = FFFFFFFFh): 0 0 and 8 0
 pictures: 8 pixels differ, columns 16 to 35, rows 0 to 0' '' diff a.trace d.trace
+recorded longer.trace 'vram 128' 'register plane-mask FFFFFFFF' 'frame 10 44332211' 'frame 20 01010101' 'frame lanes 1 80 0'
+says 1 'entries: 3 and 4, the first that differs is 3
+A ends at 3
+B     3: frame lanes 1 00000080h 00000000h   | 8 0 | simple, 4 pixels from 128; refused, 8: a pixel of the span lies outside video memory; a run ends here
+answers: number 0 and 8, B at entry 3 (simple, frame 00000080h, lanes 1)
+pictures: alike' '' diff a.trace longer.trace
 recorded e.trace 'vram 128' 'frame 10 44332211' 'frame 80 0' 'frame 20 01010101'
 says 1 'entries: 3 and 3, the first that differs is 0
 A     0: frame 00000080h 00000000h           | 8 0 | simple, 4 pixels from 128; refused, 8: a pixel of the span lies outside video memory; a run ends here
@@ -691,7 +697,7 @@ for number in 0 1 2 3 4 5 6 7 8 9 10 11 12 13; do
     same found want "explain $number"
 done
 says 0 'number 8   a pixel of the span lies outside video memory
-Frame writes, the 64-byte copy and continues can get it. Look at the first pixel, the width and the length of video memory: pixels count though they are masked, and places of a line though they are not drawn.' '' explain 8
+Frame writes, the 64-byte copy, continues and read-backs can get it. Look at the first pixel, the width and the length of video memory: pixels count though they are masked, and places of a line though they are not drawn.' '' explain 8
 plane='register 0028h  plane-mask        read, write  planes that can change; pixel p takes byte p mod 4'
 for word in plane-mask 'plane mask' PLANE_MASK 28 28h 0x28 0028; do
     says 0 "$plane" '' explain "$word"
@@ -710,6 +716,18 @@ for word in 14 colour h 0x '' 100000030; do
     fails "nothing is called '$word'; 'zevkholtai explain' lists all" explain "$word"
 done
 fails "nothing is called 'colour'; 'zevkholtai explain' lists all" explain 8 colour
+# the formula of an operation gives, for source bit s and old bit d, bit 3 - 2s - d of its number
+call explain
+sed -n 's/^operation \([0-9]*\) *[a-z-]*  */\1 /p' out | sed 's/xor/^/g; s/and/\&/g; s/or/|/g; s/not /!/g; s/source/s/g; s/old/d/g' >formulas
+[ "$(wc -l <formulas)" -eq 16 ] || wrong 'explain: not sixteen formulas'
+while read -r number formula; do
+    for s in 0 1; do
+        for d in 0 1; do
+            [ "$(eval "echo \$(($formula))")" -eq $((number >> (3 - 2 * s - d) & 1)) ] || wrong "operation $number is not $formula"
+        done
+    done
+    pass
+done <formulas
 
 # --- an output that is an input
 

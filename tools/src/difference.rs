@@ -97,25 +97,40 @@ pub fn entries(a: &Side, b: &Side) -> Finding {
     ))
 }
 
-/// Numbers and counts, of the entries that both have.
+/// Numbers and counts, of the entries that both have; where these are alike and one run is refused later, its refused entry.
 pub fn answers(a: &Side, b: &Side) -> Finding {
     let (x, y) = (a.number(), b.number());
-    if x != y {
-        return Finding::differs(format!("answers: number {x} and {y}\n"));
-    }
+    let numbers = if x == y {
+        format!("number {x}")
+    } else {
+        format!("number {x} and {y}")
+    };
     let mut both = a.answers.iter().zip(&b.answers).enumerate();
     let first = both.find(|(_, (p, q))| (p.number, p.count) != (q.number, q.count));
-    let Some((index, (p, q))) = first else {
-        return Finding::alike(format!("answers: alike, number {x}\n"));
+    if let Some((index, (p, q))) = first {
+        let name = a.name(index);
+        let (p, q) = (told(p), told(q));
+        return Finding::differs(format!(
+            "answers: {numbers}, the first that differs is of entry {index} ({name}): {p} and {q}\n"
+        ));
+    }
+    if x == y {
+        return Finding::alike(format!("answers: alike, {numbers}\n"));
+    }
+    let (letter, longer) = if a.answers.len() > b.answers.len() {
+        ('A', a)
+    } else {
+        ('B', b)
     };
+    let last = longer.answers.len() - 1;
+    let name = longer.name(last);
     Finding::differs(format!(
-        "answers: number {x}, the first that differs is of entry {index} ({}): {} {} and {} {}\n",
-        a.name(index),
-        p.number,
-        p.count,
-        q.number,
-        q.count
+        "answers: {numbers}, {letter} at entry {last} ({name})\n"
     ))
+}
+
+fn told(answer: &Answer) -> String {
+    format!("{} {}", answer.number, answer.count)
 }
 
 /// The places where two video memories of one length differ.

@@ -10,7 +10,7 @@ use crate::values::decimal_of;
 use crate::verbs::Verb;
 use crate::words::SENTENCES;
 use std::ffi::OsString;
-use zevkholtai::{mode, operation, register};
+use zevkholtai::{mode, number, operation, register, Card};
 
 pub const VERB: Verb = Verb {
     name: "explain",
@@ -26,7 +26,8 @@ fn number_line(number: usize, sentence: &str) -> String {
 }
 
 fn register_line(name: &str, offset: u32) -> String {
-    let (readable, holds) = explained::register(offset);
+    let readable = Card::reset(0).read(offset).number == number::ACCEPTED;
+    let holds = explained::register(offset);
     let way = if readable {
         "read, write"
     } else {

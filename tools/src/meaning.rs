@@ -98,8 +98,8 @@ fn register_write(card: &Card, offset: u32, data: u32) -> String {
             signed(data, 0, 16)
         ),
         register::BRESENHAM_3 => {
-            let pixels = counted(line_length(data), "pixel");
-            format!("error {}, {pixels}", signed(data, 15, 17))
+            let places = counted(line_length(data), "place");
+            format!("error {}, {places}", signed(data, 15, 17))
         }
         register::CONTINUE => continued(card, data),
         register::COPY_SOURCE | register::COPY_DESTINATION => format!("64 pixels from {data}"),

@@ -8,7 +8,7 @@ use crate::text::{parse, Line};
 use crate::trace::LONGEST;
 use crate::verbs::Verb;
 use crate::words::sentence;
-use zevkholtai::{check, extend, number, start, Checked};
+use zevkholtai::{append, check, number, start, Checked};
 
 pub const VERB: Verb = Verb {
     name: "record",
@@ -49,8 +49,8 @@ impl Recording {
             }
             Line::Write(_) if self.used == 0 => Err("before it comes 'vram N'".to_string()),
             Line::Write(write) => {
-                let extended = extend(&mut self.buffer, self.used, write);
-                self.take(extended)
+                let appended = append(&mut self.buffer, self.used, write);
+                self.take(appended)
             }
         }
     }

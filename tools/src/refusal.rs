@@ -1,24 +1,26 @@
 //! What is said on standard error where something is refused.
 
-use crate::entry::{is_frame, is_register};
+use crate::entry::{is_frame, is_register, ALL_LANES};
 use crate::meaning::walks;
 use crate::names::{hex, mode_name, register_name, spaced};
 use crate::words::sentence_for;
 use zevkholtai::{number, Card, Write};
 
-/// The write by its name, for a sentence.
+/// The write by its name, for a sentence; the lanes where they are not all.
 pub fn named(card: &Card, write: Write) -> String {
-    if is_frame(write) {
-        let mode = mode_name(card.registers.mode);
-        return format!("{mode}, frame {}", hex(write.address));
+    let (address, data) = (hex(write.address), hex(write.data));
+    let name = if is_frame(write) {
+        format!("{}, frame {address}", mode_name(card.registers.mode))
+    } else if is_register(write) {
+        let register = register_name(write.address).map_or(address, spaced);
+        format!("register {register} = {data}")
+    } else {
+        format!("space {}, {address} = {data}", write.space)
+    };
+    match write.lanes {
+        ALL_LANES => name,
+        lanes => format!("{name}, lanes {lanes}"),
     }
-    let data = hex(write.data);
-    if is_register(write) {
-        let name = register_name(write.address).map_or_else(|| hex(write.address), spaced);
-        return format!("register {name} = {data}");
-    }
-    let (space, address) = (write.space, hex(write.address));
-    format!("space {space}, {address} = {data}")
 }
 
 /// An entry that was refused, with the card that it met.
