@@ -141,8 +141,10 @@ cat >"$room/stand-in/rt" <<'STANDIN'
 echo "rt $*" >>"$NOTES"
 [ ! -e "$BROKEN" ] || { echo 'a proof that does not hold'; exit 1; }
 echo 'rt: card proved (3 s)'
-mkdir -p target/staticlib
+mkdir -p target/staticlib target/bin
 touch target/staticlib/libzevkholtai.a
+printf '#!/bin/sh\nkill -SEGV $$\n' >target/bin/demo
+chmod 755 target/bin/demo
 turns=0
 while [ -e "$AWAITED" ] && [ "$turns" -lt 100 ] && ! grep -qs 'this one waits' "$AWAITED"/first-err-*; do
     turns=$((turns + 1))
@@ -201,6 +203,8 @@ echo 'changed' >>"$tree/crates/one"
 case_is 'a call after a change' 0 there replay two
 [ "$(noted 'rt staticlib')" -eq 6 ] || wrong "a change was not built: $(cat "$NOTES")"
 case_is 'a program that crashes' 2 there replay crash
+said err 'crashed'
+case_is 'a demonstration that crashes' 2 there demo
 said err 'crashed'
 rm "$tree/target/tools/zevkholtai"
 case_is 'a call after the tool was lost' 0 there replay two
