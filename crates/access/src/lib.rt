@@ -1,4 +1,6 @@
 // Registers read, by the table. What that means stands in `card/specs/Access.antt`.
+#![tactic(auto)]
+
 ghost use Rattle.std.specs.Prelude.{◌≡◌};
 ghost use Rattle.card.specs.Access.{holds, reading};
 

@@ -1,5 +1,7 @@
 // A write and a run as a C program gives and gets them, on a card by value. The crates `host` and `host_run` take the card out of the program's memory,
 // call one of these each, and store the next card in place.
+#![tactic(auto)]
+
 ghost use Rattle.std.specs.Prelude.{◌≡◌, length};
 ghost use Rattle.engine.specs.Text.{keeps};
 ghost use Rattle.answers.specs.Answers.{write_of, Wrote, Replayed};
@@ -9,7 +11,7 @@ use format::STEP;
 
 // What a write answers: its number, the pixels enabled, and those changed.
 #[repr(C)]
-#[derive(Drop)]
+#[derive(Clone, Copy)]
 pub struct Answer {
     pub number: u32,
     pub count: u32,
@@ -18,7 +20,7 @@ pub struct Answer {
 
 // What a run answers: the number, the entries applied, the total pixels, those changed, and where the unread part begins.
 #[repr(C)]
-#[derive(Drop)]
+#[derive(Clone, Copy)]
 pub struct Ran {
     pub number: u32,
     pub entries: u32,
@@ -28,7 +30,7 @@ pub struct Ran {
 }
 
 // The next card, what a write answers, and whether it was refused or is text, so that no more of the card than its pixel mask has changed.
-#[derive(Drop)]
+#[derive(Clone, Copy)]
 pub struct Written {
     pub card: Card,
     pub answer: Answer,
@@ -36,7 +38,7 @@ pub struct Written {
 }
 
 // The card after, and what a run answers.
-#[derive(Drop)]
+#[derive(Clone, Copy)]
 pub struct Run {
     pub card: Card,
     pub ran: Ran,

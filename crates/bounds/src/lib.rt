@@ -1,4 +1,6 @@
 // The tests of number 1, which traces and read-back use too, of 2, which appending does, and of 8, which drawing does.
+#![tactic(auto)]
+
 ghost use Rattle.std.specs.Prelude.{◌≡◌, ◌+◌, ltb};
 ghost use Rattle.rules.specs.Refusal.{bad_length, bad_space};
 

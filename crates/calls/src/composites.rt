@@ -33,10 +33,8 @@ fn made(right: u32, op: u8) -> u32 {
 // A pixel under every operation.
 pub(crate) fn one_pixel() -> u32 {
     let mut t: u32 = 0;
-    let mut op: u8 = 0;
-    while op < 16 {
+    for op in 0..16u8 {
         t = made(t, op);
-        op += 1;
     }
     t
 }
@@ -71,12 +69,10 @@ pub(crate) fn s9() -> u32 {
 // All sixteen rows of sixteen.
 pub(crate) fn by_the_rule() -> u32 {
     let mut t: u32 = 0;
-    let mut i: u32 = 0;
-    while i < 256 {
+    for i in 0..256u32 {
         let a = (i / 16) as u8;
         let b = (i % 16) as u8;
         t = composes(t, a, b, composed(a, b));
-        i += 1;
     }
     t
 }
@@ -84,11 +80,9 @@ pub(crate) fn by_the_rule() -> u32 {
 // No operation is neutral on either side.
 pub(crate) fn with_five() -> u32 {
     let mut t: u32 = 0;
-    let mut a: u8 = 0;
-    while a < 16 {
+    for a in 0..16u8 {
         t = composes(t, a, 5, a);
         t = composes(t, 5, a, a);
-        a += 1;
     }
     t
 }
@@ -96,14 +90,12 @@ pub(crate) fn with_five() -> u32 {
 // Every a, b and c: composing is associative.
 pub(crate) fn of_three() -> u32 {
     let mut t: u32 = 0;
-    let mut i: u32 = 0;
-    while i < 4096 {
+    for i in 0..4096u32 {
         let a = (i / 256) as u8;
         let b = (i / 16 % 16) as u8;
         let c = (i % 16) as u8;
         let left = composing::compose(composing::compose(a, b), c);
         t = composes(t, a, composing::compose(b, c), left);
-        i += 1;
     }
     t
 }

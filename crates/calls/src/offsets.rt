@@ -22,12 +22,10 @@ fn listed(offset: u32) -> bool {
 pub(crate) fn low() -> u32 {
     let card = all_written();
     let mut t: u32 = 0;
-    let mut offset: u32 = 0;
-    while offset < 0x1000 {
+    for offset in 0..0x1000u32 {
         if !listed(offset) {
             t = reads(t, card, offset, 4, 0);
         }
-        offset += 1;
     }
     t
 }

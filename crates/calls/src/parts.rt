@@ -4,10 +4,8 @@ use crate::right::with;
 // 256 bytes of VRAM, no two alike.
 fn filled() -> [u8; 256] {
     let mut vram = [0u8; 256];
-    let mut p: usize = 0;
-    while p < 256 {
+    for p in 0..256usize {
         vram[p] = (p * 5 % 256) as u8;
-        p += 1;
     }
     vram
 }
@@ -19,7 +17,7 @@ fn part_is_right(vram: &[u8], a: u32, n: u32) -> bool {
     if vram.len() < end {
         return false;
     }
-    check::same(readback::part(vram, a, n), &vram[first..end])
+    readback::part(vram, a, n) == &vram[first..end]
 }
 
 fn numbered(right: u32, size: usize, a: u32, n: u32, number: u32) -> u32 {

@@ -73,10 +73,8 @@ fn column(card: Card, k: usize) -> u32
     requires { k < 4 }
 {
     let mut t: u32 = 0;
-    let mut i: usize = 0;
-    while i < 20 {
+    for i in 0..20usize {
         t = reads(t, card, cell(i, 0), 0, cell(i, k));
-        i += 1;
     }
     t
 }
@@ -88,10 +86,8 @@ pub(crate) fn at_reset(held: u8) -> u32 {
 // Every register written, from the first row to the last.
 pub(crate) fn all_written() -> Card {
     let mut card = Card::reset(0);
-    let mut i: usize = 0;
-    while i < 20 {
+    for i in 0..20usize {
         card = sent(card, 1, cell(i, 0), cell(i, 2));
-        i += 1;
     }
     card
 }

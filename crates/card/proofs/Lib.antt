@@ -1,3 +1,2 @@
--- The laws of register reads, and the steps of a proof by hand over a lent card.
+-- The laws of register reads.
 pub mod Readings
-pub mod Lent

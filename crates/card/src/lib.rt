@@ -1,10 +1,12 @@
 // The card's state, its registers, and the writes that it is sent.
 // What each function means stands in specs/, under the headings of the scope paper.
+#![tactic(auto)]
+
 ghost use Rattle.std.specs.Prelude.{◌≡◌};
 ghost use Rattle.card.specs.Reset.{reset_card};
 
 // What a register offset names. The lasting and the one-shot pixel mask are one value at two offsets.
-#[derive(Drop)]
+#[derive(Clone, Copy)]
 pub enum Register {
     Foreground,
     Background,
@@ -26,7 +28,7 @@ pub enum Register {
 }
 
 // A row of the register table. `kept` is the mask of the bits that a write keeps and a read shows.
-#[derive(Drop)]
+#[derive(Clone, Copy)]
 pub struct Row {
     pub offset: u32,
     pub register: Register,
@@ -37,7 +39,7 @@ pub struct Row {
 
 // What a register read answers.
 #[repr(C)]
-#[derive(Drop)]
+#[derive(Clone, Copy)]
 pub struct Reading {
     pub number: u32,
     pub value: u32,
@@ -45,7 +47,7 @@ pub struct Reading {
 
 // The registers that hold a number of their own. Pixel shift can only hold 0, so it has no field.
 #[repr(C)]
-#[derive(Drop)]
+#[derive(Clone, Copy)]
 pub struct Registers {
     pub foreground: u32,
     pub background: u32,
@@ -61,7 +63,7 @@ pub struct Registers {
 
 // The pixel mask, and whether it is one-shot.
 #[repr(C)]
-#[derive(Drop)]
+#[derive(Clone, Copy)]
 pub struct Mask {
     pub bits: u32,
     pub marked: u32,
@@ -69,7 +71,7 @@ pub struct Mask {
 
 // The copy buffer, whether it holds a 64-byte source, and the copy direction: whether the next copy write draws its destination.
 #[repr(C)]
-#[derive(Drop)]
+#[derive(Clone, Copy)]
 pub struct Copier {
     pub buffer: [u8; 64],
     pub loaded: u32,
@@ -79,7 +81,7 @@ pub struct Copier {
 // Where the last line or continue stopped, for the next continue: the place and the error after its last step, and whether there was one. Both words are
 // signed, in two's complement: the place can lie below 0. They are kept apart from the registers, which a line leaves alone.
 #[repr(C)]
-#[derive(Drop)]
+#[derive(Clone, Copy)]
 pub struct Line {
     pub place: u32,
     pub error: u32,
@@ -89,7 +91,7 @@ pub struct Line {
 // The whole state, in parts. Every field is a word or an array of a multiple of four bytes, so no byte of it is padding and every pattern of bytes
 // is a card; a mark is set where its word is not 0. No write can change the held planes, bits 7:0 of `held`.
 #[repr(C)]
-#[derive(Drop)]
+#[derive(Clone, Copy)]
 pub struct Card {
     pub registers: Registers,
     pub mask: Mask,
@@ -107,7 +109,7 @@ pub const CLEAR: u32 = 0;
 pub const REGISTERS: u8 = 1;
 
 // One write, as the bus delivers it, to the frame or to the registers. Lanes, the scope paper's word, are the byte enables of the bus.
-#[derive(Drop)]
+#[derive(Clone, Copy)]
 pub struct Write {
     pub space: u8,
     pub lanes: u8,

@@ -1,4 +1,6 @@
 // Whether bytes are a trace, and a part of them its entries. What that means stands in the crate `format`.
+#![tactic(auto)]
+
 ghost use Rattle.std.specs.Prelude.{◌≡◌};
 ghost use Rattle.format.specs.Traces.{well_formed, good_header, fits_header, is_trace, check_number, check_length, check_part};
 

@@ -1,4 +1,6 @@
 // The composites of the sixteen raster operations, as a table.
+#![tactic(auto)]
+
 ghost use Rattle.std.specs.Prelude.{◌≡◌};
 ghost use Rattle.raster.specs.Pixel.{composite};
 

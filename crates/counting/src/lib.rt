@@ -1,4 +1,6 @@
 // Bytes counted, for the programs.
+#![tactic(auto)]
+
 ghost use Rattle.std.specs.Prelude.{◌≡◌, not, ◌≤◌, min, eqb, leb, length, get_or};
 ghost use Rattle.raster.specs.Pixel.{value};
 ghost use Rattle.span.specs.Fragments.{counted};

@@ -4,10 +4,16 @@
 // A hatched band is drawn in two fills a row, which meet. A caliper is drawn by exclusive-or and taken off the same way, and the engine says
 // both times how many pixels changed.
 // With a name as argument it also writes the picture there, as a PGM.
+#![tactic(auto)]
+
+ghost use Rattle.std.specs.Prelude.{◌≤◌, length};
+
 use card::{Card, Write};
 use engine::Answer;
-use libc::STDOUT_FILENO;
+use std::env::FillError;
+use std::io;
 use std::num::wrapping_add_u32;
+use std::rt::{Env, Files};
 
 const FOREGROUND: u32 = 0x0020;
 
@@ -76,7 +82,7 @@ const HATCH: [u32; 8] = [
     0x0000000F, 0x000000F0, 0x00000F00, 0x0000F000, 0x000F0000, 0x00F00000, 0x0F000000, 0xF0000000,
 ];
 
-#[derive(Drop)]
+#[derive(Clone, Copy)]
 struct Point {
     x: u8,
     y: u8,
@@ -84,7 +90,7 @@ struct Point {
 
 // What a line makes of the way from one corner to the next: `straights` times the address increment `step` and `diagonals` times
 // `diagonal`, spread evenly.
-#[derive(Drop)]
+#[derive(Clone, Copy)]
 struct Leg {
     straights: u8,
     diagonals: u8,
@@ -93,7 +99,7 @@ struct Leg {
 }
 
 // The card while the trace is drawn, and how many pixels it drew, by lines and by continues; too few to wrap.
-#[derive(Drop)]
+#[derive(Clone, Copy)]
 struct Pen {
     card: Card,
     lines: u32,
@@ -126,11 +132,9 @@ fn row(card: Card, x: u8, y: u32, width: u8, vram: &mut [u8]) -> Answer {
 // A filled box of `width` + 1 columns and `rows` rows.
 fn filled(card: Card, x: u8, y: u8, width: u8, rows: u32, vram: &mut [u8]) -> Card {
     let mut card = card;
-    let mut i: u32 = 0;
-    while i < rows {
+    for i in 0..rows {
         let a = row(card, x, y as u32 + i % 256, width, vram);
         card = a.card;
-        i += 1;
     }
     card
 }
@@ -275,10 +279,8 @@ fn walked(pen: Pen, from: Point, to: Point, origin: u32, vram: &mut [u8]) -> Pen
 // Three beats and most of a fourth: 90 legs over 241 columns, with the point (0, 0) at the address `origin`.
 fn beats(pen: Pen, origin: u32, vram: &mut [u8]) -> Pen {
     let mut pen = pen;
-    let mut i: u8 = 0;
-    while i < 90 {
+    for i in 0..90u8 {
         pen = walked(pen, nth(i), nth(i + 1), origin, vram);
-        i += 1;
     }
     pen
 }
@@ -306,23 +308,19 @@ fn trace(card: Card, vram: &mut [u8]) -> Pen {
 fn hatch(card: Card, x: u8, width: u8, vram: &mut [u8]) {
     let card = register(card, MODE, TRANSPARENT_FILL, vram);
     let mut card = register(card, FOREGROUND, 0x58585858, vram);
-    let mut i: u32 = 0;
-    while i < 24 {
+    for i in 0..24u32 {
         card = register(card, FILL_MASK, HATCH[(i % 8) as usize], vram);
         let a = row(card, x, i + 208, width, vram);
         card = a.card;
-        i += 1;
     }
 }
 
 // An upright line, from row 60 on, and how many pixels the engine says it changed, which cannot be so many that they wrap. No one-shot pixel mask is set here, so a fill leaves the card as it is.
 fn upright(card: Card, x: u8, vram: &mut [u8]) -> u32 {
     let mut changed: u32 = 0;
-    let mut i: u32 = 0;
-    while i < 130 {
+    for i in 0..130u32 {
         let a = row(card, x, i + 60, 0, vram);
         changed = wrapping_add_u32(changed, a.tally.changed);
-        i += 1;
     }
     changed
 }
@@ -342,16 +340,14 @@ fn caliper(card: Card, vram: &mut [u8]) -> u32 {
     marks(card, vram)
 }
 
-fn line(what: &[u8], n: usize) {
-    io::write_all(STDOUT_FILENO, what);
-    io::print_decimal(STDOUT_FILENO, n as u64);
-    io::write_all(STDOUT_FILENO, b"\n");
+fn line(rt: &impl Print, what: &str, n: usize) -> io::Result<()> {
+    println!(rt; "{what}{n}")
 }
 
 // The alarm border.
-fn alarm(vram: &mut [u8; 65536]) {
+fn alarm(rt: &impl Print, vram: &mut [u8; 65536]) -> io::Result<()> {
     border(vram);
-    line(b"alarm border, pixels: ", counting::at_least(vram, 128));
+    line(rt, "alarm border, pixels: ", counting::at_least(vram, 128))
 }
 
 // The whole screen in grey.
@@ -361,90 +357,115 @@ fn grey(vram: &mut [u8]) -> Card {
 }
 
 // The heart-beat. Its three passes share pixels, so more are drawn than change.
-fn heart(card: Card, vram: &mut [u8; 65536]) {
+fn heart(rt: &impl Print, card: Card, vram: &mut [u8; 65536]) -> io::Result<()> {
     let before = *vram;
     let pen = trace(card, vram);
     line(
-        b"heart-beat in three passes, pixels drawn by lines: ",
+        rt,
+        "heart-beat in three passes, pixels drawn by lines: ",
         pen.lines as usize,
-    );
+    )?;
     line(
-        b"pixels drawn by continues after the lines: ",
+        rt,
+        "pixels drawn by continues after the lines: ",
         pen.continues as usize,
-    );
+    )?;
     line(
-        b"heart-beat on the screen, pixels changed: ",
+        rt,
+        "heart-beat on the screen, pixels changed: ",
         counting::differing(vram, &before),
-    );
+    )
 }
 
 // The screen that holds plane 7, with its trace. The card comes back in opaque fill.
-fn bedside(vram: &mut [u8; 65536]) -> Card {
+fn bedside(rt: &impl Print, vram: &mut [u8; 65536]) -> io::Result<Card> {
     let card = grey(vram);
     line(
-        b"alarm border after a grey fill of the whole screen, pixels: ",
+        rt,
+        "alarm border after a grey fill of the whole screen, pixels: ",
         counting::at_least(vram, 128),
-    );
-    heart(card, vram);
-    card
+    )?;
+    heart(rt, card, vram)?;
+    Ok(card)
 }
 
 // The band in two fills side by side: from column 17, low bits 1, and from column 114, low bits 2. The hatch goes on across the seam,
 // since both addresses are 16 more than a multiple of 32: one fill across both draws the same.
-fn hatched(card: Card, vram: &mut [u8; 65536]) {
+fn hatched(rt: &impl Print, card: Card, vram: &mut [u8; 65536]) -> io::Result<()> {
     let before = *vram;
     let mut whole = *vram;
     hatch(card, 17, 96, vram);
     hatch(card, 114, 125, vram);
     hatch(card, 17, 222, &mut whole);
     line(
-        b"hatch of two fills side by side, pixels changed: ",
+        rt,
+        "hatch of two fills side by side, pixels changed: ",
         counting::differing(vram, &before),
-    );
+    )?;
     line(
-        b"the same hatch in one fill across both, pixels that differ: ",
+        rt,
+        "the same hatch in one fill across both, pixels that differ: ",
         counting::differing(vram, &whole),
-    );
+    )
 }
 
 // The caliper, drawn and taken off from one card.
-fn measured(card: Card, vram: &mut [u8; 65536]) {
+fn measured<R: Print + Eprint + Env + Files>(
+    rt: &R,
+    card: Card,
+    vram: &mut [u8; 65536],
+) -> io::Result<()> {
     let before = *vram;
     let drawn = caliper(card, vram);
     line(
-        b"caliper drawn by exclusive-or, pixels changed: ",
+        rt,
+        "caliper drawn by exclusive-or, pixels changed: ",
         drawn as usize,
-    );
-    if os::arg_count() > 1 {
-        save(vram);
+    )?;
+    if is_given(rt, 1) {
+        save(rt, vram);
     }
     let taken_off = caliper(card, vram);
     line(
-        b"caliper taken off the same way, pixels changed: ",
+        rt,
+        "caliper taken off the same way, pixels changed: ",
         taken_off as usize,
-    );
+    )?;
     line(
-        b"pixels left of the caliper: ",
+        rt,
+        "pixels left of the caliper: ",
         counting::differing(vram, &before),
-    );
+    )
 }
 
 // Draws the screen, and says what was drawn.
-fn screen(vram: &mut [u8; 65536]) {
-    alarm(vram);
-    let card = bedside(vram);
-    hatched(card, vram);
-    measured(card, vram);
+fn screen<R: Print + Eprint + Env + Files>(rt: &R, vram: &mut [u8; 65536]) -> io::Result<()> {
+    alarm(rt, vram)?;
+    let card = bedside(rt, vram)?;
+    hatched(rt, card, vram)?;
+    measured(rt, card, vram)
+}
+
+// Whether there is an argument i.
+fn is_given(rt: &impl Env, i: usize) -> bool {
+    !matches!(rt.arg(i, &mut []), Err(FillError::NotPresent))
+}
+
+// Puts argument i at the start of the buffer, and answers its length: 0 where there is none, or it is longer than the buffer.
+fn argument(rt: &impl Env, i: usize, buffer: &mut [u8]) -> usize
+    ensures { result ≤ length buffer.new }
+{
+    rt.arg(i, buffer).unwrap_or(0)
 }
 
 // The picture, in the file that the argument names.
-fn save(vram: &[u8]) {
-    let mut path = io::buffer();
-    let n = os::arg(1, &mut path);
-    show::picture(&path[..n], vram, 256);
+fn save<R: Eprint + Env + Files>(rt: &R, vram: &[u8]) {
+    let mut path = [0u8; 4096];
+    let n = argument(rt, 1, &mut path);
+    show::picture(rt, &path[..n], vram, 256);
 }
 
-fn main() {
+fn main(rt: HostRuntime) -> io::Result<()> {
     let mut vram = [0u8; 65536];
-    screen(&mut vram);
+    screen(&rt, &mut vram)
 }

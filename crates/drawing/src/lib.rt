@@ -1,4 +1,6 @@
 // What an accepted write draws, into the lent VRAM.
+#![tactic(auto)]
+
 ghost use Rattle.std.specs.Prelude.{◌≡◌, true, ◌+◌, ◌≤◌, length};
 ghost use Rattle.plan.specs.Plan.{is_whole, drawable as drawable_in};
 ghost use Rattle.drawing.specs.Contract.{CarriedOut, Tried};

@@ -1,4 +1,6 @@
 // What becomes of the card: the effect of an accepted write, carried out.
+#![tactic(auto)]
+
 ghost use Rattle.std.specs.Prelude.{◌≡◌, List, ℕ};
 ghost use Rattle.card.specs.declared.Write.{Write};
 ghost use Rattle.plan.specs.Plan.{left as left_by};

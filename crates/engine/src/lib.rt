@@ -1,5 +1,7 @@
 // The engine: one write at a time, with the card's state and a lent video memory.
 // What a write means stands in the crate `rules`; what is promised here stands in specs/.
+#![tactic(auto)]
+
 ghost use Rattle.std.specs.Prelude.{◌≡◌, true, false, not, ◌%◌, eqb, length};
 ghost use Rattle.raster.specs.Pixel.{bit};
 ghost use Rattle.span.specs.Fragments.{counted};
@@ -20,7 +22,7 @@ const CONTINUE: u32 = 0x004C;
 const OPAQUE_STIPPLE: u32 = 0x01;
 
 // What a write answers: its number, what was drawn, and the next card.
-#[derive(Drop)]
+#[derive(Clone, Copy)]
 pub struct Answer {
     pub number: u32,
     pub tally: Tally,
@@ -28,7 +30,7 @@ pub struct Answer {
 }
 
 // The same, and whether the write was refused or is text: no more of the card than its pixel mask has changed then, and whoever holds the card may store that alone.
-#[derive(Drop)]
+#[derive(Clone, Copy)]
 pub struct Told {
     pub answer: Answer,
     pub kept: bool,

@@ -1,4 +1,6 @@
 // Words and entries of a trace, read from its bytes. What they mean stands in the crate `format`.
+#![tactic(auto)]
+
 ghost use Rattle.std.specs.Prelude.{◌≡◌, ◌+◌, ◌*◌, ◌^◌, ◌≤◌, length};
 ghost use Rattle.format.specs.Bytes.{word, word_at};
 ghost use Rattle.format.specs.Traces.{entry_size, write_at, entry_at};

@@ -1,5 +1,6 @@
 // Recorded traces as bytes: a header of 16 bytes, then 12 bytes for each write. What they mean stands in specs/, under the headings
 // of the scope paper; their laws in proofs/.
+#![tactic(auto)]
 
 // The sizes of the header and of an entry, in bytes.
 pub const HEADER: usize = 16;

@@ -1,4 +1,6 @@
 // The plan of a frame write: one arm for each mode. A line's draws nothing: its walk is gone apart (crate `walks`).
+#![tactic(auto)]
+
 ghost use Rattle.std.specs.Prelude.{◌≡◌};
 ghost use Rattle.rules.specs.Modes.{mode_of, fill_low, fill_first, fill_width};
 ghost use Rattle.plan.specs.Plan.{frame_plan, drawing_plan, copy_plan, halved_plan, rotated as rotated_by};
@@ -79,7 +81,7 @@ pub fn plan(card: Card, w: Write) -> Plan
 }
 
 // Where a fill's span starts, how wide it is, and its mask with the bit of its first pixel first.
-#[derive(Drop)]
+#[derive(Clone, Copy)]
 struct Fill {
     first: usize,
     width: u32,

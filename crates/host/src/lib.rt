@@ -4,6 +4,8 @@
 // copied at the call (measured: docs/changes/words.md).
 // What the entries on a card mean stands in the crates `card` (reset, a register read) and `answers`, read-back in `readback`, a composite in `raster`, what those
 // on a buffer mean in specs/Buffers.antt.
+#![tactic(auto)]
+
 ghost use Rattle.std.specs.Prelude.{◌≡◌};
 ghost use Rattle.raster.specs.Pixel.{composite};
 ghost use Rattle.card.specs.Access.{reading};
@@ -17,7 +19,7 @@ use card::{Card, Reading, Write};
 
 // What starting, appending, extending and checking answer: the number, and a length in bytes.
 #[repr(C)]
-#[derive(Drop)]
+#[derive(Clone, Copy)]
 pub struct Checked {
     pub number: u32,
     pub length: u32,

@@ -1,6 +1,8 @@
 // A run, as a C program asks for it: the card stands in the program's memory, and is changed there. What it means stands in the crate `answers`.
 // It stands apart from the other entries for C (crates `host` and `host_serial`) since each of these crates is compiled by itself. In this one a run alone
 // calls the engine's write; a function with one caller is built into it, so that no card is copied at the call (measured: docs/changes/words.md).
+#![tactic(auto)]
+
 ghost use Rattle.answers.specs.Answers.{Replayed};
 
 use answers::Ran;

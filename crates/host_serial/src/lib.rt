@@ -2,6 +2,8 @@
 // They stand apart from the other entries for C (crates `host` and `host_run`) since each of these crates is compiled by itself, and a function with one caller
 // is built into it, so that no card is copied at the call (measured: docs/changes/words.md). Here the engine's write is built into `serial::draw`, which has two
 // callers itself and is handed a copy.
+#![tactic(auto)]
+
 ghost use Rattle.std.specs.Prelude.{◌≡◌};
 ghost use Rattle.line.specs.Serial.{new_reader, standing, chunk, ended};
 

@@ -3,6 +3,7 @@ use crate::line;
 use card::{Card, Write};
 use format::{ENTRY, HEADER, LARGEST, LONGEST};
 use recording::Length;
+use std::io;
 
 // The bytes of one entry more than the largest number.
 const ROOM: usize = LONGEST + ENTRY;
@@ -17,37 +18,35 @@ const SIMPLE: Write = Write {
 // The longest trace, for a VRAM of 64 bytes.
 fn recorded(buffer: &mut [u8]) -> Length {
     let mut trace = recording::start(buffer, 64);
-    let mut i: usize = 0;
-    while i < LARGEST {
+    for _ in 0..LARGEST {
         trace = recording::extend(buffer, trace.length, SIMPLE);
-        i += 1;
     }
     trace
 }
 
-fn length(what: &[u8], trace: Length) {
-    line(what, trace.number, b"length", trace.length as u64);
+fn length(rt: &impl Print, what: &str, trace: Length) -> io::Result<()> {
+    line(rt, what, trace.number, "length", trace.length as u64)
 }
 
-fn checked(what: &[u8], bytes: &[u8]) {
+fn checked(rt: &impl Print, what: &str, bytes: &[u8]) -> io::Result<()> {
     let mut number: u32 = 0;
     let mut vram: u32 = 0;
     checking::check(bytes, &mut number, &mut vram);
-    line(what, number, b"vram", vram as u64);
+    line(rt, what, number, "vram", vram as u64)
 }
 
-fn run(what: &[u8], part: &[u8]) {
+fn run(rt: &impl Print, what: &str, part: &[u8]) -> io::Result<()> {
     let mut vram = [0u8; 64];
     let r = trace::run(part, Card::reset(0), &mut vram, 0xFFFF_FFFF);
-    line(what, r.number, b"entries", r.applied as u64);
+    line(rt, what, r.number, "entries", r.applied as u64)
 }
 
 // What a new reader answers to a chunk.
-fn arrives(what: &[u8], bytes: &[u8]) {
+fn arrives(rt: &impl Print, what: &str, bytes: &[u8]) -> io::Result<()> {
     let mut vram = [0u8; 64];
     let fed = serial::chunk(serial::new(), Card::reset(0), bytes, &mut vram);
     let reader = fed.reader;
-    line(what, reader.number, b"entries", reader.applied as u64);
+    line(rt, what, reader.number, "entries", reader.applied as u64)
 }
 
 // The first n bytes; all of them where there are fewer.
@@ -66,26 +65,28 @@ fn entries(bytes: &[u8]) -> &[u8] {
     &bytes[HEADER..]
 }
 
-fn filled(buffer: &mut [u8]) {
-    length(b"65536 entries recorded", recorded(buffer));
+fn filled(rt: &impl Print, buffer: &mut [u8]) -> io::Result<()> {
+    length(rt, "65536 entries recorded", recorded(buffer))?;
     length(
-        b"one more appended",
+        rt,
+        "one more appended",
         recording::append(buffer, LONGEST, SIMPLE),
-    );
+    )?;
     length(
-        b"one more by extending",
+        rt,
+        "one more by extending",
         recording::extend(buffer, LONGEST, SIMPLE),
-    );
+    )
 }
 
-fn longest(buffer: &[u8]) {
+fn longest(rt: &impl Print, buffer: &[u8]) -> io::Result<()> {
     let trace = front(buffer, LONGEST);
-    checked(b"65536 entries checked", trace);
-    run(b"65536 entries run", entries(trace));
-    arrives(b"65536 entries arriving", trace);
+    checked(rt, "65536 entries checked", trace)?;
+    run(rt, "65536 entries run", entries(trace))?;
+    arrives(rt, "65536 entries arriving", trace)
 }
 
-// The header of 65,537 entries, put together by hand: no append makes it.
+// The header of 65,537 entries over the header of the longest trace: no append makes it.
 fn announce_one_more(buffer: &mut [u8; ROOM]) {
     buffer[0] = 0x01;
     buffer[2] = 0x01;
@@ -93,29 +94,29 @@ fn announce_one_more(buffer: &mut [u8; ROOM]) {
     buffer[14] = 0x0C;
 }
 
-fn too_long(buffer: &[u8]) {
-    checked(b"65537 entries checked", buffer);
-    run(b"65537 entries run", entries(buffer));
-    arrives(b"15 bytes of their header arriving", front(buffer, 15));
-    arrives(b"16 bytes of their header arriving", front(buffer, 16));
+fn too_long(rt: &impl Print, buffer: &[u8]) -> io::Result<()> {
+    checked(rt, "65537 entries checked", buffer)?;
+    run(rt, "65537 entries run", entries(buffer))?;
+    arrives(rt, "15 bytes of their header arriving", front(buffer, 15))?;
+    arrives(rt, "16 bytes of their header arriving", front(buffer, 16))
 }
 
-fn lent_filled(buffer: &mut [u8; ROOM]) {
-    filled(buffer);
+fn lent_filled(rt: &impl Print, buffer: &mut [u8; ROOM]) -> io::Result<()> {
+    filled(rt, buffer)
 }
 
-fn lent_longest(buffer: &[u8; ROOM]) {
-    longest(buffer);
+fn lent_longest(rt: &impl Print, buffer: &[u8; ROOM]) -> io::Result<()> {
+    longest(rt, buffer)
 }
 
-fn lent_too_long(buffer: &[u8; ROOM]) {
-    too_long(buffer);
+fn lent_too_long(rt: &impl Print, buffer: &[u8; ROOM]) -> io::Result<()> {
+    too_long(rt, buffer)
 }
 
-pub(crate) fn limits() {
+pub(crate) fn limits(rt: &impl Print) -> io::Result<()> {
     let mut buffer = [0u8; ROOM];
-    lent_filled(&mut buffer);
-    lent_longest(&buffer);
+    lent_filled(rt, &mut buffer)?;
+    lent_longest(rt, &buffer)?;
     announce_one_more(&mut buffer);
-    lent_too_long(&buffer);
+    lent_too_long(rt, &buffer)
 }

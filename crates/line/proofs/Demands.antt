@@ -88,7 +88,7 @@ holds_draw w s =
           (λ _. refl);
     }
 
-holds_step : {s t : Standing} {b : ℕ} → Step largest s b t → Holds s t
+holds_step : {s : Standing} {b : ℕ} {t : Standing} → Step largest s b t → Holds s t
 unfolding waits opens
 holds_step {s} (stays n) = undrawn s s refl refl
 holds_step {s} refuses = undrawn s (sticks 10 s) refl refl
@@ -119,7 +119,7 @@ held_from_reset planes rest v i k h l e = (held_planes rest (fresh (reset_card p
 abbrev Answered : Standing → Type 0
 Answered s = s.reader.number ≤ 13
 
-answered_step : {s t : Standing} {b : ℕ} → Answered s → Step largest s b t → Answered t
+answered_step : {s : Standing} {b : ℕ} {t : Standing} → Answered s → Step largest s b t → Answered t
 unfolding waits opens draws apply refuse
 answered_step h (stays n) = h
 answered_step h refuses = omega arith

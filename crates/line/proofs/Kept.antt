@@ -46,7 +46,7 @@ pub draws_size : (w : Write) (s : Standing) → size (draws w s) ≡ size s
 unfolding draws apply refuse
 draws_size w s = by_answer (λ t. length t.picture ≡ size s) w (state_of s) (λ _. same_length s.card w s.picture) (λ _. refl)
 
-size_step : {most : ℕ} {s t : Standing} {b : ℕ} → Step most s b t → size t ≡ size s
+size_step : {most : ℕ} {s : Standing} {b : ℕ} {t : Standing} → Step most s b t → size t ≡ size s
 unfolding waits opens
 size_step (stays n) = refl
 size_step refuses = refl
@@ -71,7 +71,7 @@ pub draws_room : (w : Write) (s : Standing) → room (draws w s) ≡ 16
 unfolding draws
 draws_room w s = refl
 
-room_step : {most : ℕ} {s t : Standing} {b : ℕ} → room s ≡ 16 → Step most s b t → room t ≡ 16
+room_step : {most : ℕ} {s : Standing} {b : ℕ} {t : Standing} → room s ≡ 16 → Step most s b t → room t ≡ 16
 unfolding waits opens
 room_step h (stays n) = h
 room_step h refuses = h
@@ -134,7 +134,7 @@ draws-sound most w s o m h =
     awaits true = omega arith
     awaits false = omega arith
 
-sound_step : {most : ℕ} {s t : Standing} {b : ℕ} → Sound most s.reader → Step most s b t → Sound most t.reader
+sound_step : {most : ℕ} {s : Standing} {b : ℕ} {t : Standing} → Sound most s.reader → Step most s b t → Sound most t.reader
 unfolding waits opens
 sound_step h (stays n) = h
 sound_step h refuses = record { space = h.space; within = h.within; few = h.few; total = h.total; changes = h.changes }

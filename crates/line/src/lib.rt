@@ -1,10 +1,12 @@
 // Traces that arrive over a serial line, in chunks of any length: what is unfinished waits in the reader, and each entry is drawn once
 // it is whole. What that means stands in specs/, in the words of change request 2; the laws and theorems in proofs/.
+#![tactic(auto)]
+
 use card::Card;
 
 // What waits between two chunks. Every field is a word or an array of a multiple of four bytes, so every pattern of bytes is a reader.
 #[repr(C)]
-#[derive(Drop)]
+#[derive(Clone, Copy)]
 pub struct Reader {
     // what the last call answered; a number other than 0 sticks
     pub number: u32,
@@ -22,7 +24,7 @@ pub struct Reader {
 
 // What a chunk leaves.
 #[repr(C)]
-#[derive(Drop)]
+#[derive(Clone, Copy)]
 pub struct Fed {
     pub reader: Reader,
     pub card: Card,

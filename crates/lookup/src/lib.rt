@@ -1,4 +1,6 @@
 // The register table: the rows of `card/specs/Registers.antt`.
+#![tactic(auto)]
+
 ghost use Rattle.std.specs.Prelude.{◌≡◌};
 ghost use Rattle.card.specs.Registers.{row, row_at};
 

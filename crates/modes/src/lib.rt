@@ -1,4 +1,6 @@
 // The mode register, decoded.
+#![tactic(auto)]
+
 ghost use Rattle.std.specs.Prelude.{◌≡◌};
 ghost use Rattle.rules.specs.Modes.{mode_of, unlisted, is_line};
 

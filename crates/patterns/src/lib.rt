@@ -1,4 +1,6 @@
 // The words that a span takes of registers, eight pixels each, and its masks: made once, before any pixel is drawn. And the byte of a single pixel.
+#![tactic(auto)]
+
 ghost use Rattle.std.specs.Prelude.{◌≡◌, cond, [], ◌∷◌, ℕ, ◌+◌, ◌/◌, ◌%◌, get_or};
 ghost use Rattle.raster.specs.Pixel.{bit};
 ghost use Rattle.span.specs.Fragments.{byte};

@@ -1,11 +1,13 @@
 // The rule of one pixel, which is one byte here, for eight pixels at once: a word of 64 bits has eight.
+#![tactic(auto)]
+
 ghost use Rattle.std.specs.Prelude.{◌≡◌, ◌-◌, ◌^◌};
 ghost use Rattle.std.specs.Int.Bits.{bit_xor};
 ghost use Rattle.raster.specs.Pixel.{bit, number, made};
 ghost use Rattle.span.specs.Fragments.{paint, alters};
 
 // A raster operation reduced, as X servers call it, to one source word and one mask: an old word becomes (old & and) ^ xor.
-#[derive(Drop)]
+#[derive(Clone, Copy)]
 pub struct Reduced {
     pub and: u64,
     pub xor: u64,
@@ -37,7 +39,7 @@ pub fn reduce(op: u8, mask: u64, source: u64) -> Reduced
 }
 
 // One pixel made, and whether it is another than the old one.
-#[derive(Drop)]
+#[derive(Clone, Copy)]
 pub struct Made {
     pub byte: u8,
     pub changed: bool,

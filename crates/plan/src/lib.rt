@@ -1,4 +1,6 @@
 // The plan of a write: what is drawn where and what becomes of the card, decided once. Refusal, drawing and the next card use it.
+#![tactic(auto)]
+
 use card::Register;
 
 // The last of the sixteen raster operations.
@@ -8,7 +10,7 @@ pub const LAST_OPERATION: u32 = 15;
 pub const COPY: u8 = 3;
 
 // What the pixels of a span take. `at` is the address of the first, for the bytes that go by address.
-#[derive(Drop)]
+#[derive(Clone, Copy)]
 pub enum Paint {
     // foreground where bit j mod 32 is set, else background: of each the byte of the address mod 4
     Stippled {
@@ -29,7 +31,7 @@ pub enum Paint {
 }
 
 // What becomes of an accepted write's card.
-#[derive(Drop)]
+#[derive(Clone, Copy)]
 pub enum Effect {
     // a frame write uses a one-shot pixel mask up
     UsesMask,
@@ -44,7 +46,7 @@ pub enum Effect {
 }
 
 // The tests of 3, 4, 5, 6, 7 and 9, by what is at fault.
-#[derive(Drop)]
+#[derive(Clone, Copy)]
 pub struct Faults {
     pub lanes: bool,
     pub register: bool,
@@ -54,7 +56,7 @@ pub struct Faults {
     pub source: bool,
 }
 
-#[derive(Drop)]
+#[derive(Clone, Copy)]
 pub struct Plan {
     pub faults: Faults,
     // the span, whose pixel j is enabled by bit j mod 32

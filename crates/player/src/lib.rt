@@ -1,4 +1,6 @@
 // Replaying a recorded trace: the run of a whole trace from reset, and a trace that arrives in chunks.
+#![tactic(auto)]
+
 ghost use Rattle.std.specs.Prelude.{◌≡◌};
 ghost use Rattle.player.specs.Playing.{played, pictured};
 
@@ -10,7 +12,7 @@ pub use arriving::{close, feed, length_of};
 
 // What replaying a trace answers: what the run or the end call answers, and the VRAM length of the trace's header. `play` answers 0 for it where it is no
 // trace or the VRAM lent is shorter, `close` what it is given.
-#[derive(Drop)]
+#[derive(Clone, Copy)]
 pub struct Played {
     pub number: u32,
     pub entries: u32,

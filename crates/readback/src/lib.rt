@@ -1,5 +1,7 @@
 // Read-back of pixels out of VRAM.
 // What each function means stands in specs/ReadBack.antt.
+#![tactic(auto)]
+
 ghost use Rattle.std.specs.Prelude.{◌≡◌};
 ghost use Rattle.readback.specs.ReadBack.{back_number, back_part};
 

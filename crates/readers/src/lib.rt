@@ -1,4 +1,6 @@
 // A reader of traces that arrive: a new one, the end call, and what can be told without the engine. What each function means stands in the crate `line`.
+#![tactic(auto)]
+
 ghost use Rattle.std.specs.Prelude.{◌≡◌, cond, not, ◌&&◌, ◌||◌, eqb};
 ghost use Rattle.card.specs.Registers.{is_set};
 ghost use Rattle.format.specs.Bytes.{word};

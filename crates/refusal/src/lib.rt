@@ -1,4 +1,6 @@
 // The number of a write from its plan: one list of tests, and the first of them that holds.
+#![tactic(auto)]
+
 ghost use Rattle.std.specs.Prelude.{◌≡◌};
 ghost use Rattle.plan.specs.Plan.{judged, first_of};
 

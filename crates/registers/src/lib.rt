@@ -1,4 +1,6 @@
 // The plan of a register write.
+#![tactic(auto)]
+
 ghost use Rattle.std.specs.Prelude.{◌≡◌, ◌||◌};
 ghost use Rattle.rules.specs.Modes.{register_of};
 ghost use Rattle.plan.specs.Plan.{register_plan, storing_plan, copying_plan};

@@ -1,31 +1,34 @@
 // A trace that arrives on standard input. The header's 16 bytes are gathered first, since the length of VRAM stands there; then each read is fed as soon
 // as it has come, and nothing is kept but the reader's own state.
-ghost use Rattle.io.specs.Counts.{IsPrefixLen};
+ghost use Rattle.std.specs.Prelude.{◌≤◌, length};
 
 use bounds::LARGEST_VRAM;
 use card::Card;
 use format::{ENTRY, LARGEST};
 use line::Reader;
 use player::Played;
+use std::io::Read;
 
 // One read: how many bytes came, in the front of the buffer. None at the end of the input; a read that fails ends it too, and says so.
-fn some(input: i32, buffer: &mut [u8]) -> usize
-    ensures { IsPrefixLen result buffer.new }
+fn some<I: Read>(rt: &impl Eprint, input: &mut I, buffer: &mut [u8]) -> usize
+    ensures { result ≤ length buffer.new }
 {
-    let got = libc::read(input, buffer);
-    if got < 0 {
-        os::fail(b"replay: standard input");
+    match input.read(buffer) {
+        Ok(n) => n,
+        Err(error) => {
+            let _ = eprintln!(rt; "replay: standard input: {error}");
+            0
+        }
     }
-    io::count(got, buffer)
 }
 
 // Reads until the buffer is full or the input ends, and answers how many bytes came.
-fn full(input: i32, buffer: &mut [u8]) -> usize
-    ensures { IsPrefixLen result buffer.new }
+fn full<I: Read>(rt: &impl Eprint, input: &mut I, buffer: &mut [u8]) -> usize
+    ensures { result ≤ length buffer.new }
 {
     let mut came: usize = 0;
     while came < buffer.len() {
-        let n = some(input, &mut buffer[came..]);
+        let n = some(rt, input, &mut buffer[came..]);
         if n == 0 {
             break;
         }
@@ -36,8 +39,9 @@ fn full(input: i32, buffer: &mut [u8]) -> usize
 
 // What comes after the header, read by read, until the input ends or a number comes. Each turn reads a byte at least, and one byte more than
 // the entries of the largest trace is past every total: so many turns suffice.
-fn rest(
-    input: i32,
+fn rest<I: Read>(
+    rt: &impl Eprint,
+    input: &mut I,
     reader: Reader,
     card: Card,
     n: usize,
@@ -46,19 +50,17 @@ fn rest(
 ) -> Reader {
     let mut reader = reader;
     let mut card = card;
-    let mut turns = ENTRY * LARGEST + 1;
-    while 0 < turns {
+    for _ in 0..ENTRY * LARGEST + 1 {
         if reader.number != 0 {
             break;
         }
-        let came = some(input, buffer);
+        let came = some(rt, input, buffer);
         if came == 0 {
             break;
         }
         let fed = player::feed(reader, card, &buffer[..came], n, vram);
         reader = fed.reader;
         card = fed.card;
-        turns -= 1;
     }
     reader
 }
@@ -69,9 +71,9 @@ fn front(n: usize) -> usize {
 }
 
 // The trace from reset to the end of the input.
-pub(crate) fn run(input: i32, held: u8, vram: &mut [u8]) -> Played {
+pub(crate) fn run<I: Read>(rt: &impl Eprint, input: &mut I, held: u8, vram: &mut [u8]) -> Played {
     let mut header = [0u8; 16];
-    let came = full(input, &mut header);
+    let came = full(rt, input, &mut header);
     let n = player::length_of(&header[..came]);
     let fed = player::feed(
         serial::new(),
@@ -85,6 +87,6 @@ pub(crate) fn run(input: i32, held: u8, vram: &mut [u8]) -> Played {
         return player::close(reader, 0);
     }
     let card = fed.card;
-    let mut buffer = io::buffer();
-    player::close(rest(input, reader, card, n, &mut buffer, vram), n)
+    let mut buffer = [0u8; 4096];
+    player::close(rest(rt, input, reader, card, n, &mut buffer, vram), n)
 }

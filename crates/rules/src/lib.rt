@@ -1,7 +1,8 @@
 // What a write means: the definitions in specs/, under the headings of the scope paper, and their laws in proofs/.
+#![tactic(auto)]
 
 // The drawing modes.
-#[derive(Drop)]
+#[derive(Clone, Copy)]
 pub enum Mode {
     Simple,
     OpaqueStipple,
@@ -17,14 +18,14 @@ pub enum Mode {
 }
 
 // A whole number, also below 0: `more` less `less`.
-#[derive(Drop)]
+#[derive(Clone, Copy)]
 pub struct Whole {
     pub more: u64,
     pub less: u64,
 }
 
 // A visit of a line's walk: the place that it visits, and the error with which it comes there.
-#[derive(Drop)]
+#[derive(Clone, Copy)]
 pub struct Visit {
     pub place: Whole,
     pub error: Whole,

@@ -1,8 +1,10 @@
 // Samples S1 to S12 of the scope paper, S6 in the reading of Ask 1, through the code, each compared with what it should be.
+#![tactic(auto)]
+
 ghost use Rattle.std.specs.Prelude.{◌≤◌};
 
 use card::{Card, Write};
-use libc::STDOUT_FILENO;
+use std::io;
 
 const FOREGROUND: u32 = 0x0020;
 
@@ -49,13 +51,11 @@ fn register(card: Card, offset: u32, data: u32) -> Card {
     a.card
 }
 
-fn says(sample: u64, ok: bool) {
-    io::write_all(STDOUT_FILENO, b"S");
-    io::print_decimal(STDOUT_FILENO, sample);
+fn says(rt: &impl Print, sample: u64, ok: bool) -> io::Result<()> {
     if ok {
-        io::write_all(STDOUT_FILENO, b" ok\n");
+        println!(rt; "S{sample} ok")
     } else {
-        io::write_all(STDOUT_FILENO, b" DIFFERS\n");
+        println!(rt; "S{sample} DIFFERS")
     }
 }
 
@@ -71,7 +71,7 @@ fn leaves(
     changed: u32,
 ) -> bool {
     let a = engine::write(card, w, &mut vram);
-    let same = check::same(&vram, &right);
+    let same = vram == right;
     let counted = a.tally.enabled == count && a.tally.changed == changed;
     same && a.number == number && counted
 }
@@ -223,20 +223,20 @@ fn s12() -> bool {
     if grown.length != 28 {
         return false;
     }
-    check::same(&buffer, &TRACE)
+    buffer == TRACE
 }
 
-fn main() {
-    says(1, s1());
-    says(2, s2());
-    says(3, s3());
-    says(4, s4());
-    says(5, s5());
-    says(6, s6());
-    says(7, s7());
-    says(8, s8());
-    says(9, s9());
-    says(10, s10());
-    says(11, s11());
-    says(12, s12());
+fn main(rt: HostRuntime) -> io::Result<()> {
+    says(&rt, 1, s1())?;
+    says(&rt, 2, s2())?;
+    says(&rt, 3, s3())?;
+    says(&rt, 4, s4())?;
+    says(&rt, 5, s5())?;
+    says(&rt, 6, s6())?;
+    says(&rt, 7, s7())?;
+    says(&rt, 8, s8())?;
+    says(&rt, 9, s9())?;
+    says(&rt, 10, s10())?;
+    says(&rt, 11, s11())?;
+    says(&rt, 12, s12())
 }

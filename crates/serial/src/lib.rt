@@ -1,4 +1,6 @@
 // Traces that arrive over a serial line, read chunk by chunk: `new`, `chunk` and `end`. What each function means stands in the crate `line`.
+#![tactic(auto)]
+
 ghost use Rattle.std.specs.Prelude.{◌≡◌, true, false, length};
 ghost use Rattle.card.specs.Registers.{is_set};
 ghost use Rattle.format.specs.Traces.{header_size, write_at};

@@ -1,9 +1,10 @@
 // Spans: what a write does to a run of VRAM bytes. Definitions in specs/, their laws in proofs/, and here what the span routine
 // takes and answers; what that means stands in specs/Strokes.antt.
+#![tactic(auto)]
 
 // A pattern of 32 pixels that repeats over `width` pixels: which are drawn, what each takes, under which mask.
 // A word has eight pixels, the first its lowest byte; the mask's eight repeat.
-#[derive(Drop)]
+#[derive(Clone, Copy)]
 pub struct Strokes {
     pub op: u8,
     pub enable: u32,
@@ -13,7 +14,7 @@ pub struct Strokes {
 }
 
 // What drawing answers: the number of pixels enabled, and of those changed.
-#[derive(Drop)]
+#[derive(Clone, Copy)]
 pub struct Tally {
     pub enabled: u32,
     pub changed: u32,

@@ -1,5 +1,7 @@
 // The span routine: strokes drawn into the lent part of VRAM that starts at the span's first pixel, by patterns of 32 pixels, then by words of
 // eight, then by bytes. It serves every drawing mode.
+#![tactic(auto)]
+
 ghost use Rattle.std.specs.Prelude.{◌≡◌, cond, ℕ, ◌+◌, ◌*◌, ◌/◌, ◌%◌, ◌^◌, ◌≤◌, ◌<◌, min, leb, length, get_or};
 ghost use Rattle.std.specs.Int.Bits.{bit_and, bit_xor};
 ghost use Rattle.std.proofs.lemmas.List.Edits.{sets};

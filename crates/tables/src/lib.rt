@@ -1,4 +1,6 @@
 // The table of a pattern of strokes, made once before any pixel is drawn. What it holds stands in specs/Reduced.antt.
+#![tactic(auto)]
+
 ghost use Rattle.std.specs.Prelude.{◌≡◌, cond, [], ◌∷◌, ℕ, ◌<◌};
 ghost use Rattle.raster.specs.Pixel.{bit};
 ghost use Rattle.span.specs.Fragments.{stays, paint, byte};
@@ -9,7 +11,7 @@ use pixels::{ONES, Reduced};
 use span::Strokes;
 
 // The pattern digested, eight pixels a word: an old word becomes (old & and) ^ xor.
-#[derive(Drop)]
+#[derive(Clone, Copy)]
 pub struct Table {
     pub and: [u64; 4],
     pub xor: [u64; 4],

@@ -13,7 +13,6 @@ use Rattle.card.specs.declared.Card.{Card}
 use Rattle.card.specs.declared.Write.{Write}
 use Rattle.card.specs.Reset.{reset_card}
 use Rattle.rules.specs.Refusal.{bad_length, refusal}
-use Rattle.rules.specs.Writes.{picture}
 use Rattle.rules.specs.Sequences.{card_after, picture_after}
 use Rattle.demands.proofs.Changed.{within}
 use Rattle.demands.proofs.Counting.{count_bound}

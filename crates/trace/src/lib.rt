@@ -1,5 +1,7 @@
 // Recorded traces, run: the writes of a part made one after the other, and the part that is left unread.
 // What each function means stands in specs/, under the headings of the scope paper.
+#![tactic(auto)]
+
 use card::Card;
 
 mod reading;
@@ -9,7 +11,7 @@ pub use reading::unread;
 pub use replay::run;
 
 // What a run answers: the number, the entries applied, the total pixels, those changed and the next card.
-#[derive(Drop)]
+#[derive(Clone, Copy)]
 pub struct Ran {
     pub number: u32,
     pub applied: u32,

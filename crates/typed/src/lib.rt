@@ -1,9 +1,11 @@
 // Numbers as a person types them.
+#![tactic(auto)]
+
 ghost use Rattle.std.specs.Prelude.{◌≡◌, ◌≤◌};
 ghost use Rattle.typed.specs.Typed.{digit_of, decimal_of, hex_of};
 
 // A number that was read, or that the text is none.
-#[derive(Drop)]
+#[derive(Clone, Copy)]
 pub struct Number {
     pub ok: bool,
     pub value: u32,
@@ -15,6 +17,7 @@ const NONE: Number = Number {
 };
 
 // A decimal number below 10,000,000.
+#[tactic(auto, using(crate::proofs::Digits::at_end), unfolding(crate::specs::Typed::decimal_of))]
 pub fn decimal(text: &[u8]) -> Number
     ensures { result ≡ decimal_of text.now }
 {
@@ -39,6 +42,7 @@ pub fn decimal(text: &[u8]) -> Number
 }
 
 // A number of exactly two hexadecimal digits.
+#[tactic(auto, unfolding(crate::specs::Typed::hex_of))]
 pub fn two_hex_digits(text: &[u8]) -> Number
     ensures { result ≡ hex_of text.now }
 {
@@ -60,6 +64,7 @@ pub fn two_hex_digits(text: &[u8]) -> Number
 }
 
 // The value of a hexadecimal digit, or 16.
+#[tactic(auto, unfolding(crate::specs::Typed::digit_of))]
 fn digit_of(c: u8) -> u32
     ensures { (result ≡ digit_of c) × (result ≤ 16) }
 {

@@ -1,5 +1,7 @@
 // The walk of a line or a continue (Ask 5): judged whole, then drawn visit by visit. What it means stands in `rules/specs/Lines.antt`,
 // what is promised here in specs/.
+#![tactic(auto)]
+
 ghost use Rattle.std.specs.Prelude.{◌≡◌, ◌^◌, ◌≤◌};
 ghost use Rattle.rules.specs.Lines.{start, visit_count};
 ghost use Rattle.walks.specs.Contract.{Walked};
@@ -14,7 +16,7 @@ mod steps;
 mod wholes;
 
 // What a walk answers: its number, what was drawn, and what is kept for the next continue.
-#[derive(Drop)]
+#[derive(Clone, Copy)]
 pub struct Walk {
     pub number: u32,
     pub tally: Tally,

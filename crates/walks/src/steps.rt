@@ -8,7 +8,7 @@ use crate::wholes::HALF_OF_16;
 use rules::{Visit, Whole};
 
 // What is found of a walk, and what it leaves.
-#[derive(Drop)]
+#[derive(Clone, Copy)]
 pub(crate) struct Judged {
     pub strays: bool,
     pub wild: bool,

@@ -1,4 +1,6 @@
 // Eight pixels at a time, as a word of 64 bits whose byte k is pixel k.
+#![tactic(auto)]
+
 ghost use Rattle.std.specs.Prelude.{◌≡◌, cond, not, [], ◌∷◌, ℕ, ◌+◌, ◌/◌, ◌%◌, ◌≤◌, ◌<◌, eqb, get_or};
 ghost use Rattle.raster.specs.Pixel.{bit, number, value};
 ghost use Rattle.span.specs.Fragments.{byte};

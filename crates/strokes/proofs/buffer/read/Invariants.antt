@@ -1,0 +1,15 @@
+use mathlib.Core.Path.{◌≡◌}
+use mathlib.Core.Bool.{cond}
+use mathlib.Core.List.{◌++◌}
+use Prim.Native.Nat.{◌+◌, ◌-◌, ◌*◌, ◌%◌, ◌≤◌}
+use lib.ListN.{length, get_or, drop}
+use Rattle.raster.specs.Pixel.{bit}
+use Rattle.span.specs.Fragments.{listed}
+use Rattle.strokes.proofs.buffer.read.Given as goal
+
+abbrev pub invariant-loop-k : goal.invariant-loop-k
+invariant-loop-k l =
+    (l.k ≤ l.n) × (length l.next ≡ 64) × (l.next ≡ listed (8 * l.k) (λ i. cond (bit l.bits (i % 32)) (get_or l.vram (l.at + i) 0) 0) ++ drop (8 * l.k) l.initial.next)
+
+abbrev pub decreases-loop-k : goal.decreases-loop-k
+decreases-loop-k l = l.n - l.k
