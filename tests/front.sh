@@ -132,19 +132,22 @@ passed=$((passed + 1))
 
 # ---- A tree that is not built: the toolchain is a stand-in, which notes what it is asked.
 tree=$room/tree
-mkdir -p "$tree/crates" "$tree/bindings" "$tree/tools" "$room/stand-in"
+mkdir -p "$tree/crates/demo" "$tree/bindings" "$tree/tools" "$room/stand-in"
 cp "$front" "$tree/zevkholtai"
-printf 'host:\nhost_run:\nhost_serial:\n' >"$tree/crates.txt"
+printf 'card:\nhost staticlib: card\nhost_run staticlib: card\nhost_serial staticlib: card\ndemo: card\n' >"$tree/crates.txt"
+mkdir "$tree/crates/host" "$tree/crates/host_run" "$tree/crates/host_serial"
 echo 'what the engine is made of' >"$tree/crates/one"
 cat >"$room/stand-in/rt" <<'STANDIN'
 #!/bin/sh
 echo "rt $*" >>"$NOTES"
 [ ! -e "$BROKEN" ] || { echo 'a proof that does not hold'; exit 1; }
-echo 'rt: card proved (3 s)'
-mkdir -p target/staticlib target/bin
-touch target/staticlib/libzevkholtai.a
-printf '#!/bin/sh\nkill -SEGV $$\n' >target/bin/demo
-chmod 755 target/bin/demo
+[ "$1" != ci ] || { cat "$GATE"; exit 0; }
+echo 'crate card: modules loaded=41 checked=3'
+echo 'logic=proved functions=1 sum=0'
+mkdir -p out
+touch "out/lib${PWD##*/}.a"
+printf '#!/bin/sh\nkill -SEGV $$\n' >out/demo
+chmod 755 out/demo
 turns=0
 while [ -e "$AWAITED" ] && [ "$turns" -lt 100 ] && ! grep -qs 'this one waits' "$AWAITED"/first-err-*; do
     turns=$((turns + 1))
@@ -158,10 +161,10 @@ mkdir -p "$CARGO_TARGET_DIR/release"
 printf '#!/bin/sh\n[ "$2" != crash ] || kill -SEGV $$\necho "tool $*"\n' >"$CARGO_TARGET_DIR/release/zevkholtai"
 chmod 755 "$CARGO_TARGET_DIR/release/zevkholtai"
 STANDIN
-printf '#!/bin/sh\ncat >/dev/null\n' >"$room/stand-in/ar"
+printf '#!/bin/sh\ncat >/dev/null\ntouch libzevkholtai.a\n' >"$room/stand-in/ar"
 chmod 755 "$room/stand-in/rt" "$room/stand-in/cargo" "$room/stand-in/ar"
-NOTES=$room/notes BROKEN=$room/broken AWAITED=$room/missing
-export NOTES BROKEN AWAITED
+NOTES=$room/notes BROKEN=$room/broken AWAITED=$room/missing GATE=$room/gate
+export NOTES BROKEN AWAITED GATE
 
 # the front door of that tree
 there() {
@@ -192,16 +195,16 @@ for i in 1 2 3; do
 status 0" ] || wrong "a first call among three: $(cat "$room/first-$i" "$room/first-err-$i")"
 done
 AWAITED=$room/missing
-[ "$(noted 'rt staticlib')" -eq 3 ] && [ "$(noted cargo)" -eq 1 ] || wrong "three first calls built more than once: $(cat "$NOTES")"
+[ "$(noted 'rt lib')" -eq 3 ] && [ "$(noted cargo)" -eq 1 ] || wrong "three first calls built more than once: $(cat "$NOTES")"
 grep -qh 'zevkholtai: proving and building' "$room"/first-err-* || wrong 'a first call does not say what it does'
-grep -qh 'zevkholtai: card proved (3 s)' "$room"/first-err-* || wrong 'a first call does not say which crate was proved'
+grep -qh 'zevkholtai: card proved ([0-9]* s)' "$room"/first-err-* || wrong 'a first call does not say which crate was proved'
 grep -qh 'another call is building here' "$room"/first-err-* || wrong 'a call that waits does not say so'
 passed=$((passed + 4))
 case_is 'a call on the built tree' 0 there replay two
 [ ! -s "$room/err" ] && [ "$(noted rt)" -eq 3 ] || wrong "a call on the built tree: $(cat "$room/err" "$NOTES")"
 echo 'changed' >>"$tree/crates/one"
 case_is 'a call after a change' 0 there replay two
-[ "$(noted 'rt staticlib')" -eq 6 ] || wrong "a change was not built: $(cat "$NOTES")"
+[ "$(noted 'rt lib')" -eq 6 ] || wrong "a change was not built: $(cat "$NOTES")"
 case_is 'a program that crashes' 2 there replay crash
 said err 'crashed'
 case_is 'a demonstration that crashes' 2 there demo
@@ -212,13 +215,38 @@ printf '#!/bin/sh\nexit 1\n' >"$room/stand-in/ar"
 echo 'changed again' >>"$tree/crates/one"
 case_is 'a library that cannot be joined' 2 there replay two
 printf '#!/bin/sh\necho broken\nexit 101\n' >"$room/stand-in/cargo"
-printf '#!/bin/sh\ncat >/dev/null\n' >"$room/stand-in/ar"
+printf '#!/bin/sh\ncat >/dev/null\ntouch libzevkholtai.a\n' >"$room/stand-in/ar"
 case_is 'a tool that does not compile' 2 there replay two
 said err 'broken'
 printf '#!/bin/sh\nexit 1\n' >"$room/stand-in/cksum"
 chmod 755 "$room/stand-in/cksum"
 case_is 'files that cannot be read' 2 there replay two
 said err 'cannot be read'
+rm "$room/stand-in/cksum"
+
+# the toolchain's gate: what it fails, and an edit that it cannot try
+printf 'rt: FAILED: card\n4 passed, 1 failed\n' >"$GATE"
+case_is 'a gate that fails' 2 there test
+said out '^4 passed, 1 failed$'
+said err "'rt ci' failed"
+printf 'rt: ok; handles allowed: none; must-fail edits: 3 refused, 1 bad; all was done\n5 passed, 0 failed\n' >"$GATE"
+case_is 'a bad must-fail edit' 2 there test
+! grep -q 'passed' "$room/out" || wrong 'a bad must-fail edit passed'
+printf 'rt: ok; handles allowed: none; must-fail edits: 3 refused, 1 of them only by a limit; all was done\n5 passed, 0 failed\n' >"$GATE"
+case_is 'a gate that passes, with a tool that does not compile' 2 there test
+said out '^rt: ok'
+said err 'broken'
+! grep -q 'passed' "$room/out" || wrong 'the last line came before the last check'
+
+# a commit that today's toolchain cannot build
+git init -q "$tree"
+printf 'host:\n' >"$tree/old.txt"
+old=$(printf '100644 blob %s\tcrates.txt\n' "$(git -C "$tree" hash-object -w old.txt)" | git -C "$tree" mktree)
+old=$(git -C "$tree" -c user.name=x -c user.email=x commit-tree -m old "$old")
+case_is 'bench beside a commit in the older form' 2 there bench "$old"
+said err 'older than'
+case_is 'bench beside no commit' 2 there bench nothing
+said err "knows no commit 'nothing'"
 
 # ---- What is installed, in an empty folder, by one whose files others may not read; then another user runs it, far from here.
 prefix="$room/the prefix"
