@@ -1,2 +1,3 @@
--- The laws of register reads.
+-- The laws of register reads, and the steps of a proof by hand over a lent card.
 pub mod Readings
+pub mod Lent
