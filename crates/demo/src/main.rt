@@ -6,7 +6,7 @@
 // With a name as argument it also writes the picture there, as a PGM.
 #![tactic(auto)]
 
-ghost use Rattle.std.specs.Prelude.{◌≤◌, length};
+ghost use Rattle.std.specs.Counts.{IsPrefixLen};
 
 use card::{Card, Write};
 use engine::Answer;
@@ -453,7 +453,7 @@ fn is_given(rt: &impl Env, i: usize) -> bool {
 
 // Puts argument i at the start of the buffer, and answers its length: 0 where there is none, or it is longer than the buffer.
 fn argument(rt: &impl Env, i: usize, buffer: &mut [u8]) -> usize
-    ensures { result ≤ length buffer.new }
+    ensures { IsPrefixLen result buffer.new }
 {
     rt.arg(i, buffer).unwrap_or(0)
 }

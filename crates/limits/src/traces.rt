@@ -86,7 +86,7 @@ fn longest(rt: &impl Print, buffer: &[u8]) -> io::Result<()> {
     arrives(rt, "65536 entries arriving", trace)
 }
 
-// The header of 65,537 entries over the header of the longest trace: no append makes it.
+// The header of 65,537 entries, put together by hand: no append makes it.
 fn announce_one_more(buffer: &mut [u8; ROOM]) {
     buffer[0] = 0x01;
     buffer[2] = 0x01;

@@ -1,6 +1,6 @@
 // A trace that arrives on standard input. The header's 16 bytes are gathered first, since the length of VRAM stands there; then each read is fed as soon
 // as it has come, and nothing is kept but the reader's own state.
-ghost use Rattle.std.specs.Prelude.{◌≤◌, length};
+ghost use Rattle.std.specs.Counts.{IsPrefixLen};
 
 use bounds::LARGEST_VRAM;
 use card::Card;
@@ -11,7 +11,7 @@ use std::io::Read;
 
 // One read: how many bytes came, in the front of the buffer. None at the end of the input; a read that fails ends it too, and says so.
 fn some<I: Read>(rt: &impl Eprint, input: &mut I, buffer: &mut [u8]) -> usize
-    ensures { result ≤ length buffer.new }
+    ensures { IsPrefixLen result buffer.new }
 {
     match input.read(buffer) {
         Ok(n) => n,
@@ -24,7 +24,7 @@ fn some<I: Read>(rt: &impl Eprint, input: &mut I, buffer: &mut [u8]) -> usize
 
 // Reads until the buffer is full or the input ends, and answers how many bytes came.
 fn full<I: Read>(rt: &impl Eprint, input: &mut I, buffer: &mut [u8]) -> usize
-    ensures { result ≤ length buffer.new }
+    ensures { IsPrefixLen result buffer.new }
 {
     let mut came: usize = 0;
     while came < buffer.len() {

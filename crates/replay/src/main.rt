@@ -3,7 +3,7 @@
 // PICTURE is a file for the picture, a binary PGM of WIDTH columns (512 where it is not given); HELD is the held planes, two hexadecimal digits.
 #![tactic(auto)]
 
-ghost use Rattle.std.specs.Prelude.{◌≤◌, length};
+ghost use Rattle.std.specs.Counts.{IsPrefixLen};
 
 mod arriving;
 
@@ -40,7 +40,7 @@ fn is_given(rt: &impl Env, i: usize) -> bool {
 
 // Puts argument i at the start of the buffer, and answers its length: 0 where there is none, or it is longer than the buffer.
 fn argument(rt: &impl Env, i: usize, buffer: &mut [u8]) -> usize
-    ensures { result ≤ length buffer.new }
+    ensures { IsPrefixLen result buffer.new }
 {
     rt.arg(i, buffer).unwrap_or(0)
 }
@@ -113,7 +113,7 @@ fn tell<R: Env + Eprint + Files + Print>(
 
 // Reads until the bytes are full, the file ends or a read fails, and answers how many came.
 fn read_full<F: Read>(file: &mut F, bytes: &mut [u8]) -> usize
-    ensures { result ≤ length bytes.new }
+    ensures { IsPrefixLen result bytes.new }
 {
     let mut came: usize = 0;
     while came < bytes.len() {
