@@ -1,6 +1,10 @@
 -- `strokes::text_at` meets its contract: one whole pattern in the part, put back. Assumes nothing.
-use mathlib.Core.Path.{ap, sym, ◌∙◌}
+use mathlib.Core.Path.{◌≡◌, ap, sym, ◌∙◌}
+use mathlib.Core.Bool.{false}
+use Prim.Native.Nat.{◌+◌}
 use native.Mathlib.Omega.{arith}
+use lib.Dec.{leb}
+use lib.ListN.{length}
 use Rattle.span.specs.Fragments.{before, differing}
 use Rattle.span.specs.Strokes.{stroke}
 use Rattle.span.proofs.Changed.{differing-none}
@@ -10,7 +14,9 @@ use Rattle.strokes.proofs.Turns.{further_shows, further_changes, part_changes}
 use Rattle.strokes.proofs.text_at.Goals as goal
 
 pub returns-then-vram-first : goal.returns-then-vram-first
-returns-then-vram-first c = (rw (lt-leb _ _ c.if-vram-first.true), sym (differing-none _))
+returns-then-vram-first c =
+    let past : leb (c.args.address + 32) (length c.args.vram.now) ≡ false = lt-leb _ _ c.if-vram-first.true in
+    (rw past, sym (differing-none _))
 
 pub returns : goal.returns
 returns c =
