@@ -1,2 +1,3 @@
--- What the proofs of the entries on a buffer share.
+-- What the proofs of the entries on a buffer share, and how the arms of a branch are joined.
 pub mod Lengths
+pub mod Branches
