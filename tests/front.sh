@@ -141,7 +141,7 @@ cat >"$room/stand-in/rt" <<'STANDIN'
 #!/bin/sh
 echo "rt $*" >>"$NOTES"
 [ ! -e "$BROKEN" ] || { echo 'a proof that does not hold'; exit 1; }
-[ "$1" != ci ] || { cat "$GATE"; exit 0; }
+[ "$1" != ci ] || { cat "$GATE"; exit "${GATE_STATUS:-0}"; }
 echo 'crate card: modules loaded=41 checked=3'
 echo 'logic=proved functions=1 sum=0'
 mkdir -p out
@@ -231,7 +231,20 @@ said out '^4 passed, 1 failed$'
 said err "'rt ci' failed"
 printf 'rt: ok; handles allowed: none; must-fail edits: 3 refused, 1 bad; all was done\n5 passed, 0 failed\n' >"$GATE"
 case_is 'a bad must-fail edit' 2 there test
+said err 'edit is bad'
+said err "'rt ci' failed"
 ! grep -q 'passed' "$room/out" || wrong 'a bad must-fail edit passed'
+printf 'rt: ok; handles allowed: none; must-fail edits: 3 refused; all was done\n5 passed, 0 failed\n' >"$GATE"
+GATE_STATUS=1
+export GATE_STATUS
+case_is 'a gate that fails though its last line is good' 2 there test
+said err "'rt ci' failed"
+! grep -q 'passed' "$room/out" || wrong 'a gate that fails passed'
+unset GATE_STATUS
+printf 'rt: crates are proved\n5 passed, 0 failed\n' >"$GATE"
+case_is 'a gate that does not say what it did' 2 there test
+said err "'rt ci' failed"
+! grep -q 'passed' "$room/out" || wrong 'a gate that does not say what it did passed'
 printf 'rt: ok; handles allowed: none; must-fail edits: 3 refused, 1 of them only by a limit; all was done\n5 passed, 0 failed\n' >"$GATE"
 case_is 'a gate that passes, with a tool that does not compile' 2 there test
 said out '^rt: ok'
