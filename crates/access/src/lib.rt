@@ -3,53 +3,44 @@
 
 ghost use Rattle.std.specs.Prelude.{◌≡◌};
 ghost use Rattle.card.specs.Access.{holds, reading};
+ghost use Rattle.rules.specs.Numbers.{read_of};
 
-use card::{Card, Reading, Register};
+use card::{Card, Register};
+use rules::Refusal;
 
-// What a register holds; 0 where there is nothing to read.
-fn value(card: Card, register: Register) -> u32
-    ensures { result ≡ holds card register }
+// What a register holds; 0 where there is nothing to read, as the definition `holds` has it: whether it may be read, its row says.
+fn value(card: &Card, register: Register) -> u32
+    ensures { result ≡ holds card.now register }
 {
-    let registers = card.registers;
+    let registers = &card.registers;
     match register {
         Register::Foreground => registers.foreground,
         Register::Background => registers.background,
         Register::PlaneMask => registers.plane,
-        Register::PixelMaskOnce => card.mask.bits,
+        Register::PixelMaskOnce | Register::PixelMask => card.mask.bits,
         Register::Mode => registers.mode,
         Register::RasterOperation => registers.raster,
-        Register::PixelShift => 0,
         Register::Bresenham1 => registers.bresenham1,
         Register::Bresenham2 => registers.bresenham2,
         Register::Bresenham3 => registers.bresenham3,
-        Register::Continue => 0,
-        Register::PixelMask => card.mask.bits,
         Register::FillMask => registers.fill,
-        Register::BlockColour(k) => {
-            let at = (k % 8) as usize;
-            registers.block[at]
-        }
-        Register::CopySource => 0,
-        Register::CopyDestination => 0,
-        Register::Missing => 0,
+        Register::BlockColour(k) => registers.block[(k % 8) as usize],
+        Register::PixelShift
+        | Register::Continue
+        | Register::CopySource
+        | Register::CopyDestination
+        | Register::Missing => 0,
     }
 }
 
-// A register read: number 0 with the bits of the value that its row keeps, or 4 with 0.
-pub fn read(card: Card, offset: u32) -> Reading
-    ensures { result ≡ reading card offset }
+// A register read: the bits of the value that its row keeps.
+#[tactic(auto, unfolding(card::specs::Access::reading))]
+pub fn read(card: &Card, offset: u32) -> Result<u32, Refusal>
+    ensures { read_of result ≡ reading card.now offset }
 {
     let row = lookup::find(offset);
-    if row.readable {
-        let register = row.register;
-        Reading {
-            number: 0,
-            value: value(card, register) & row.kept,
-        }
-    } else {
-        Reading {
-            number: 4,
-            value: 0,
-        }
+    if !row.readable {
+        return Err(Refusal::Register);
     }
+    Ok(value(card, row.register) & row.kept)
 }

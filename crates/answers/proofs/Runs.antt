@@ -6,16 +6,17 @@ use native.Mathlib.Omega.{arith}
 use lib.ListN.{drop}
 use Rattle.card.specs.declared.Card.{Card}
 use Rattle.trace.specs.Run.{State, outcome_of, run, unread}
+use Rattle.rules.specs.Numbers.{told_by}
 use Rattle.trace.specs.declared.Ran.{Ran}
 use Rattle.trace.proofs.Demands.{outcome}
 use Rattle.answers.specs.Answers.{Replayed}
 
-module _ (part : List ℕ) (budget : ℕ) (c : Card) (v : List ℕ) {r : Ran} {v' : List ℕ} (e : outcome_of r v' ≡ run part budget c v) where
+module _ (part : List ℕ) (budget : ℕ) (c : Card) (v : List ℕ) (r : Ran) {c' : Card} {v' : List ℕ} (e : outcome_of r c' v' ≡ run part budget c v) where
   pub rest_fits : 12 * r.applied < 2 ^ 32
   rest_fits = omega (arith, (outcome part budget c v).within-largest, ap (λ (s : State). s.applied) e)
 
   -- what a run answers, with the offset of its unread part
-  pub replayed : Replayed part budget c v (record { number = r.number; entries = r.applied; pixels = r.pixels; changed = r.changed; rest = 12 * r.applied }) r.card v'
+  pub replayed : Replayed part budget c v (record { number = told_by r.refused; entries = r.applied; pixels = r.pixels; changed = r.changed; rest = 12 * r.applied }) c' v'
   unfolding unread
   replayed =
       record {

@@ -1,15 +1,15 @@
-// A write and a run as a C program gives and gets them, on a card by value. The crates `host` and `host_run` take the card out of the program's memory,
-// call one of these each, and store the next card in place.
+// A write and a run as a C program gets them, on a card that is changed in place. The crates `host` and `host_run` call one of these each.
 #![tactic(auto)]
 
-ghost use Rattle.std.specs.Prelude.{◌≡◌, length};
-ghost use Rattle.engine.specs.Text.{keeps};
-ghost use Rattle.answers.specs.Answers.{write_of, Wrote, Replayed};
+ghost use Rattle.std.specs.Prelude.{◌≡◌};
+ghost use Rattle.answers.specs.Answers.{Wrote, Replayed, answer_of};
 
 use card::{Card, Write};
 use format::STEP;
+use rules::Refusal;
+use span::Tally;
 
-// What a write answers: its number, the pixels enabled, and those changed.
+// What a write answers, laid out for C: its number, the pixels enabled, and those changed.
 #[repr(C)]
 #[derive(Clone, Copy)]
 pub struct Answer {
@@ -18,7 +18,7 @@ pub struct Answer {
     pub changed: u32,
 }
 
-// What a run answers: the number, the entries applied, the total pixels, those changed, and where the unread part begins.
+// What a run answers, laid out for C: the number, the entries applied, the total pixels, those changed, and where the unread part begins.
 #[repr(C)]
 #[derive(Clone, Copy)]
 pub struct Ran {
@@ -29,66 +29,43 @@ pub struct Ran {
     pub rest: u32,
 }
 
-// The next card, what a write answers, and whether it was refused or is text, so that no more of the card than its pixel mask has changed.
-#[derive(Clone, Copy)]
-pub struct Written {
-    pub card: Card,
-    pub answer: Answer,
-    pub kept: bool,
-}
+impl From<Result<Tally, Refusal>> for Answer {
+    ghost from_gives = { λ told answer. answer ≡ answer_of told };
 
-// The card after, and what a run answers.
-#[derive(Clone, Copy)]
-pub struct Run {
-    pub card: Card,
-    pub ran: Ran,
-}
-
-// One write, given as its four numbers.
-pub fn write_on(
-    card: Card,
-    space: u8,
-    lanes: u8,
-    address: u32,
-    word: u32,
-    vram: &mut [u8],
-) -> Written
-    ensures { Wrote card (write_of space lanes address word) vram.old result.answer result.card vram.new
-        × (result.kept ≡ keeps card (write_of space lanes address word) (length vram.old)) }
-{
-    let w = Write {
-        space,
-        lanes,
-        address,
-        data: word,
-    };
-    let told = engine::tell(card, w, vram);
-    let next = told.answer.card;
-    let answer = Answer {
-        number: told.answer.number,
-        count: told.answer.tally.enabled,
-        changed: told.answer.tally.changed,
-    };
-    Written {
-        card: next,
-        answer,
-        kept: told.kept,
+    fn from(told: Result<Tally, Refusal>) -> Answer {
+        match told {
+            Ok(tally) => Answer {
+                number: 0,
+                count: tally.enabled,
+                changed: tally.changed,
+            },
+            Err(refusal) => Answer {
+                number: u32::from(refusal),
+                count: 0,
+                changed: 0,
+            },
+        }
     }
 }
 
-// A run, with the offset of what it left unread.
-pub fn run_on(card: Card, part: &[u8], vram: &mut [u8], budget: u32) -> Run
-    ensures { Replayed part.now budget card vram.old result.ran result.card vram.new }
+// One write. The card is changed in place.
+pub fn write_on(card: &mut Card, w: Write, vram: &mut [u8]) -> Answer
+    ensures { Wrote card.old w vram.old result card.new vram.new }
 {
-    let t = trace::run(part, card, vram, budget);
-    let rest = STEP * t.applied;
-    let next = t.card;
-    let ran = Ran {
-        number: t.number,
-        entries: t.applied,
-        pixels: t.pixels,
-        changed: t.changed,
-        rest,
-    };
-    Run { card: next, ran }
+    engine::write_to(card, w, vram).into()
+}
+
+// A run, with the offset of what it left unread.
+pub fn run_on(card: &mut Card, part: &[u8], vram: &mut [u8], budget: u32) -> Ran
+    ensures { Replayed part.now budget card.old vram.old result card.new vram.new }
+{
+    let ran = trace::run(part, card, vram, budget);
+    // no From: only of a run is it known that the offset fits 32 bits
+    Ran {
+        number: ran.number(),
+        entries: ran.applied,
+        pixels: ran.pixels,
+        changed: ran.changed,
+        rest: STEP * ran.applied,
+    }
 }

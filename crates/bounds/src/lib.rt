@@ -4,43 +4,30 @@
 ghost use Rattle.std.specs.Prelude.{◌≡◌, ◌+◌, ltb};
 ghost use Rattle.rules.specs.Refusal.{bad_length, bad_space};
 
-use card::{REGISTERS, Write};
+use card::{ALL_LANES, REGISTERS, Write};
 
 // The largest VRAM, in bytes.
 pub const LARGEST_VRAM: usize = 2_097_152;
 
-// All four lanes.
-pub const ALL_LANES: u8 = 15;
-
 // 1
+#[tactic(auto, unfolding(rules::specs::Refusal::bad_length))]
 pub fn bad_length(n: usize) -> bool
     ensures { result ≡ bad_length n }
 {
-    if n == 0 {
-        return true;
-    }
-    if n % 64 != 0 {
-        return true;
-    }
-    LARGEST_VRAM < n
+    n == 0 || n % 64 != 0 || LARGEST_VRAM < n
 }
 
 // 2
+#[tactic(auto, unfolding(rules::specs::Refusal::bad_space))]
 pub fn bad_space(w: Write) -> bool
     ensures { result ≡ bad_space w }
 {
-    if REGISTERS < w.space {
-        return true;
-    }
-    ALL_LANES < w.lanes
+    REGISTERS < w.space || ALL_LANES < w.lanes
 }
 
 // 8: the span ends past n bytes. It takes away and never adds, so nothing wraps.
 pub fn past_end(first: usize, width: u32, n: usize) -> bool
     ensures { result ≡ ltb n (first + width) }
 {
-    if n < first {
-        return true; // it starts past them
-    }
-    n - first < width as usize
+    n < first || n - first < width as usize
 }

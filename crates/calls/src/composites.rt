@@ -1,7 +1,8 @@
 // One pixel and the composites of the raster operations, beside the scope paper's "How one pixel is made".
 ghost use Rattle.std.specs.Prelude.{◌≤◌};
 
-use crate::right::with;
+use crate::score::Score;
+use composing::compose;
 
 // The new bit for source bit s and old bit d: bit (3 - 2s - d) of the operation.
 fn new_bit(op: u8, s: u8, d: u8) -> u8
@@ -18,84 +19,68 @@ fn four_bits(op: u8) -> u8
     8 * new_bit(op, 1, 1) + 4 * new_bit(op, 1, 0) + 2 * new_bit(op, 0, 1) + new_bit(op, 0, 0)
 }
 
-// Bits 7:4 of the pixel drawn, then bits 3:0: all eight cases of mask, source and old bit. It changes where those four bits do.
-fn made(right: u32, op: u8) -> u32 {
-    let bits = four_bits(op);
-    let changes = bits != 0x0A;
-    let high = pixels::make(op, 0xF0, 0xCC, 0xAA);
-    let low = pixels::make(op, 0x0F, 0xCC, 0xAA);
-    let t = with(right, high.byte == 16 * bits + 0x0A);
-    let t = with(t, high.changed == changes);
-    let t = with(t, low.byte == 0xA0 + bits);
-    with(t, low.changed == changes)
-}
-
-// A pixel under every operation.
-pub(crate) fn one_pixel() -> u32 {
-    let mut t: u32 = 0;
+// A pixel under every operation. Bits 7:4 of the pixel drawn, then bits 3:0: all eight cases of mask, source and old bit. It changes where those four bits do.
+pub(crate) fn one_pixel() -> usize {
+    let mut score = Score::new();
     for op in 0..16u8 {
-        t = made(t, op);
+        let bits = four_bits(op);
+        let changes = bits != 0x0A;
+        let high = pixels::make(op, 0xF0, 0xCC, 0xAA);
+        let low = pixels::make(op, 0x0F, 0xCC, 0xAA);
+        score.add(high.byte == 16 * bits + 0x0A);
+        score.add(high.changed == changes);
+        score.add(low.byte == 0xA0 + bits);
+        score.add(low.changed == changes);
     }
-    t
-}
-
-// The bit that b gives for s and for the bit that a gives for s and d.
-fn composed_bit(a: u8, b: u8, s: u8, d: u8) -> u8
-    requires { (s ≤ 1) × (d ≤ 1) }
-    ensures { result ≤ 1 }
-{
-    new_bit(b, s, new_bit(a, s, d))
+    score.right
 }
 
 // The composite of a then b, bit by bit.
 fn composed(a: u8, b: u8) -> u8 {
-    8 * composed_bit(a, b, 0, 0)
-        + 4 * composed_bit(a, b, 0, 1)
-        + 2 * composed_bit(a, b, 1, 0)
-        + composed_bit(a, b, 1, 1)
+    8 * new_bit(b, 0, new_bit(a, 0, 0))
+        + 4 * new_bit(b, 0, new_bit(a, 0, 1))
+        + 2 * new_bit(b, 1, new_bit(a, 1, 0))
+        + new_bit(b, 1, new_bit(a, 1, 1))
 }
 
-fn composes(right: u32, a: u8, b: u8, composite: u8) -> u32 {
-    with(right, composing::compose(a, b) == composite)
-}
+// Two operations and their composite, as S9 has them.
+const S9: [(u8, u8, u8); 4] = [(6, 6, 5), (3, 6, 0), (1, 7, 3), (6, 1, 2)];
 
-pub(crate) fn s9() -> u32 {
-    let t = composes(0, 6, 6, 5);
-    let t = composes(t, 3, 6, 0);
-    let t = composes(t, 1, 7, 3);
-    composes(t, 6, 1, 2)
+pub(crate) fn s9() -> usize {
+    S9.iter().filter(|(a, b, c)| compose(*a, *b) == *c).count()
 }
 
 // All sixteen rows of sixteen.
-pub(crate) fn by_the_rule() -> u32 {
-    let mut t: u32 = 0;
-    for i in 0..256u32 {
-        let a = (i / 16) as u8;
-        let b = (i % 16) as u8;
-        t = composes(t, a, b, composed(a, b));
+pub(crate) fn by_the_rule() -> usize {
+    let mut score = Score::new();
+    for a in 0..16u8 {
+        for b in 0..16u8 {
+            score.add(compose(a, b) == composed(a, b));
+        }
     }
-    t
+    score.right
 }
 
 // No operation is neutral on either side.
-pub(crate) fn with_five() -> u32 {
-    let mut t: u32 = 0;
+pub(crate) fn with_five() -> usize {
+    let mut score = Score::new();
     for a in 0..16u8 {
-        t = composes(t, a, 5, a);
-        t = composes(t, 5, a, a);
+        score.add(compose(a, 5) == a);
+        score.add(compose(5, a) == a);
     }
-    t
+    score.right
 }
 
 // Every a, b and c: composing is associative.
-pub(crate) fn of_three() -> u32 {
-    let mut t: u32 = 0;
-    for i in 0..4096u32 {
-        let a = (i / 256) as u8;
-        let b = (i / 16 % 16) as u8;
-        let c = (i % 16) as u8;
-        let left = composing::compose(composing::compose(a, b), c);
-        t = composes(t, a, composing::compose(b, c), left);
+pub(crate) fn of_three() -> usize {
+    let mut score = Score::new();
+    for a in 0..16u8 {
+        for b in 0..16u8 {
+            for c in 0..16u8 {
+                let left = compose(compose(a, b), c);
+                score.add(compose(a, compose(b, c)) == left);
+            }
+        }
     }
-    t
+    score.right
 }

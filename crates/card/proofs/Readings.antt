@@ -1,4 +1,4 @@
--- A register read, where there is one and where there is none. Assumes nothing.
+-- A register read, where there is one and where there is none. With these the crate itself holds `reading` to the bits that a row keeps. Assumes nothing.
 use mathlib.Core.Path.{◌≡◌}
 use mathlib.Core.Bool.{true, false}
 use Prim.Native.Nat.{ℕ}

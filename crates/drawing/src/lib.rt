@@ -16,22 +16,16 @@ mod brush;
 const WHOLE: u32 = 64;
 
 // Whether a plan can be drawn in n bytes.
-fn drawable(p: Plan, n: usize) -> bool
-    ensures { result ≡ drawable_in p n }
+#[tactic(auto, unfolding(plan::specs::Plan::drawable))]
+fn drawable(p: &Plan, n: usize) -> bool
+    ensures { result ≡ drawable_in p.now n }
 {
-    if past_end(p.first, p.width, n) {
-        return false;
-    }
-    let paint = p.paint;
-    match paint {
-        Paint::Whole => p.width == WHOLE,
-        _ => true,
-    }
+    !past_end(p.first, p.width, n) && (!matches!(p.paint, Paint::Whole) || p.width == WHOLE)
 }
 
-// The span of a plan, where it can be drawn.
-pub fn draw(p: Plan, card: Card, vram: &mut [u8]) -> Tally
-    ensures { Tried p card vram.old result vram.new }
+// The span of a plan, where it can be drawn. Plan, card and VRAM stand apart here and below: two are read, and one is changed.
+pub fn draw(p: &Plan, card: &Card, vram: &mut [u8]) -> Tally
+    ensures { Tried p.now card.now vram.old result vram.new }
 {
     if drawable(p, vram.len()) {
         planned(p, card, vram)
@@ -41,15 +35,14 @@ pub fn draw(p: Plan, card: Card, vram: &mut [u8]) -> Tally
 }
 
 // A plan that can be drawn. Where it enables no pixel, its span is not gone through.
-fn planned(p: Plan, card: Card, vram: &mut [u8]) -> Tally
-    requires { (p.first + p.width ≤ length vram.old) × (is_whole p.paint ≡ true → p.width ≡ 64) }
-    ensures { CarriedOut p card vram.old result vram.new }
+fn planned(p: &Plan, card: &Card, vram: &mut [u8]) -> Tally
+    requires { (p.now.first + p.now.width ≤ length vram.old) × (is_whole p.now.paint ≡ true → p.now.width ≡ 64) }
+    ensures { CarriedOut p.now card.now vram.old result vram.new }
 {
     if p.enable == 0 {
         return Tally::NONE;
     }
-    let paint = p.paint;
-    match paint {
+    match p.paint {
         Paint::Whole => halves(p, card, vram),
         _ => {
             let s = brush::strokes(p, card);
@@ -59,9 +52,9 @@ fn planned(p: Plan, card: Card, vram: &mut [u8]) -> Tally
 }
 
 // The whole copy buffer, in two halves.
-fn halves(p: Plan, card: Card, vram: &mut [u8]) -> Tally
-    requires { (p.first + p.width ≤ length vram.old) × (is_whole p.paint ≡ true) × (p.width ≡ 64) }
-    ensures { CarriedOut p card vram.old result vram.new }
+fn halves(p: &Plan, card: &Card, vram: &mut [u8]) -> Tally
+    requires { (p.now.first + p.now.width ≤ length vram.old) × (is_whole p.now.paint ≡ true) × (p.now.width ≡ 64) }
+    ensures { CarriedOut p.now card.now vram.old result vram.new }
 {
     let first = p.first;
     let low = brush::half_strokes(p, card, 0);

@@ -1,76 +1,46 @@
 // What becomes of the card: the effect of an accepted write, carried out.
 #![tactic(auto)]
 
-ghost use Rattle.std.specs.Prelude.{◌≡◌, List, ℕ};
-ghost use Rattle.card.specs.declared.Write.{Write};
+ghost use Rattle.std.specs.Prelude.{◌≡◌};
 ghost use Rattle.plan.specs.Plan.{left as left_by};
-ghost use Rattle.plan.specs.declared.Effect.TheVariants.{UsesMask};
 ghost use Rattle.rules.specs.Writes.{used_up};
 
-use card::{CLEAR, Card, Copier, Mask, ONES, SET, Write};
+use card::{CLEAR, Card, ONES, SET, Write};
 use plan::Effect;
 use strokes::buffer;
 
-// The pixel mask after a frame write: a one-shot one is used up.
-fn used_up(mask: Mask) -> u32
-    ensures { result ≡ (used_up mask).bits }
+// What an accepted frame write in any mode but copy leaves: a one-shot pixel mask is used up.
+pub fn mask_used(card: &mut Card)
+    ensures { card.new ≡ record card.old { mask = used_up card.old.mask } }
 {
-    if mask.marked == CLEAR {
-        return mask.bits;
+    if card.mask.marked != CLEAR {
+        card.mask.bits = ONES;
+        card.mask.marked = CLEAR;
     }
-    ONES
 }
 
-// The card that an accepted frame write in any mode but copy leaves, whatever the write and the picture.
-pub fn mask_used(card: Card) -> Card
-    ensures { (w : Write) (v : List ℕ) → result ≡ left_by UsesMask card w v }
+// An effect, carried out on the card.
+#[tactic(auto, unfolding(plan::specs::Plan::left, plan::specs::Plan::reads, plan::specs::Plan::loads, rules::specs::Writes::sourced))]
+pub fn left(effect: Effect, card: &mut Card, w: Write, vram: &[u8])
+    ensures { card.new ≡ left_by effect card.old w vram.now }
 {
-    let mut used = card;
-    let bits = used_up(card.mask);
-    used.mask.bits = bits;
-    used.mask.marked = CLEAR;
-    used
-}
-
-// The card that an effect leaves.
-pub fn left(effect: Effect, card: Card, w: Write, vram: &[u8]) -> Card
-    ensures { result ≡ left_by effect card w vram.now }
-{
-    let mut next = card;
     match effect {
         Effect::UsesMask => mask_used(card),
         Effect::ReadsSource => {
-            let buffer = card.copier.buffer;
-            let read = buffer::source(vram, w.address, w.data, buffer);
-            let copier = Copier {
-                buffer: read,
-                loaded: CLEAR,
-                writing: SET,
-            };
-            let mut used = mask_used(card);
-            used.copier = copier;
-            used
+            mask_used(card);
+            buffer::source(vram, w.address, w.data, &mut card.copier.buffer);
+            card.copier.loaded = CLEAR;
+            card.copier.writing = SET;
         }
         Effect::DrawsDestination => {
-            let mut used = mask_used(card);
-            used.copier.writing = CLEAR;
-            used
+            mask_used(card);
+            card.copier.writing = CLEAR;
         }
         Effect::Stores { register, value } => storing::store(card, register, value),
         Effect::Loads => {
-            let buffer = card.copier.buffer;
-            let read = buffer::load(vram, w.data, buffer);
-            let copier = Copier {
-                buffer: read,
-                loaded: SET,
-                writing: card.copier.writing,
-            };
-            next.copier = copier;
-            next
+            buffer::load(vram, w.data, &mut card.copier.buffer);
+            card.copier.loaded = SET;
         }
-        Effect::Unloads => {
-            next.copier.loaded = CLEAR;
-            next
-        }
+        Effect::Unloads => card.copier.loaded = CLEAR,
     }
 }

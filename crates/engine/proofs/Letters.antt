@@ -1,13 +1,13 @@
--- Text, drawn and counted the shorter way, is what the definitions say of its write; and where a write keeps the card. The former assumes that the write is text and is accepted.
+-- Text, drawn and counted the shorter way, is what the definitions say of its write. Assumes that the write is text and is accepted.
 use mathlib.Core.Path.{◌≡◌, refl, ap, sym, ◌∙◌, subst}
-use mathlib.Core.Bool.{Bool, true, false, cond, not}
+use mathlib.Core.Bool.{true, false, cond, not}
 use mathlib.Core.List.{List}
 use Prim.Native.Nat.{ℕ, ◌+◌, ◌-◌, ◌%◌, ◌^◌, ◌≤◌}
-use native.Mathlib.Decide.{ℕ_discrete}
 use native.Mathlib.Omega.{arith}
 use lib.Dec.{eqb, leb}
 use lib.ListN.{length}
-use borrow.Author.Tests.{eq-eqb, ne_eqb, eqb-true}
+use native.Mathlib.Decide.{ℕ_discrete}
+use borrow.Author.Tests.{eq-eqb, eqb-true}
 use Rattle.raster.specs.Pixel.{bit}
 use Rattle.span.specs.Fragments.{drawn, before, from, counted, differing, byte}
 use Rattle.span.specs.Spans.{spanned, enabled_in}
@@ -21,7 +21,7 @@ use Rattle.card.specs.declared.Write.{Write}
 use Rattle.rules.specs.Modes.{mode_of, effective, effective_by, frame_span}
 use Rattle.rules.specs.Lines.{walks}
 use Rattle.rules.specs.Refusal.{off_boundary, refusal}
-use Rattle.rules.specs.Writes.{count, next, picture, changed}
+use Rattle.rules.specs.Writes.{count, next, picture, changed, used_up}
 use Rattle.rules.specs.declared.Mode.TheVariants.{OpaqueStipple}
 use Rattle.demands.proofs.Changed.{whole}
 use Rattle.demands.proofs.Demand3.{visits-none}
@@ -33,6 +33,9 @@ use Rattle.plan.specs.declared.Plan.{Plan}
 use Rattle.plan.proofs.PlanNumber.{planned_inside}
 use Rattle.plan.proofs.PlanEffect.{planned-shows, planned-counts, planned-leaves}
 use Rattle.drawing.proofs.Sources.{mask_again}
+use Rattle.std.proofs.Common.{Result}
+use Rattle.rules.specs.declared.Refusal.{Refusal}
+use Rattle.engine.specs.Contract.{Written}
 use Rattle.engine.specs.Text.{is_text, keeps}
 
 module _ (c : Card) (w : Write) (t : is_text c w ≡ true) where
@@ -98,35 +101,24 @@ module _ (c : Card) (w : Write) (t : is_text c w ≡ true) where
     pub text_leaves : left UsesMask c w v ≡ next c w v
     text_leaves = sym (planned-leaves c w text_still v ok ∙ ap (λ (p : Plan). left p.effect c w v) text_plan)
 
--- ---- What is known of the card.
+    -- the same as `effects::mask_used` says it
+    pub text_used : record c { mask = used_up c.mask } ≡ next c w v
+    unfolding left
+    text_used = text_leaves
 
-pub keeps_refused : (c : Card) (w : Write) (n : ℕ) → (refusal c w n ≡ 0 → ⊥) → true ≡ keeps c w n
+-- ---- What is kept of the card.
+
+-- where a write keeps the card, the next one differs in its pixel mask alone
+pub kept : (c : Card) (w : Write) (v : List ℕ) → keeps c w (length v) ≡ true → next c w v ≡ record c { mask = (next c w v).mask }
 unfolding keeps
-keeps_refused c w n refused = rw (ne_eqb _ _ refused)
-
-pub keeps-accepted : (c : Card) (w : Write) (n : ℕ) {b : Bool} → refusal c w n ≡ 0 → is_text c w ≡ b → b ≡ keeps c w n
-unfolding keeps
-keeps-accepted c w n ok e = rw (eq-eqb _ _ ok) (sym e)
-
-pub keeps_either : (c : Card) (w : Write) (n : ℕ) {k : ℕ} → k ≡ refusal c w n → is_text c w ≡ false → not (eqb k 0) ≡ keeps c w n
-unfolding keeps
-keeps_either c w n e t = rw (e, t) (go (eqb (refusal c w n) 0))
-  where
-    go : (b : Bool) → not b ≡ cond b false true
-    go true = refl
-    go false = refl
-
--- a card with the pixel mask of another, and the rest of its own
-abbrev pub remasked : Card → Card → Card
-remasked c d = record { registers = c.registers; mask = d.mask; copier = c.copier; line = c.line; held = c.held }
-
--- where a write keeps the card, the next one is that
-pub kept : (c : Card) (w : Write) (v : List ℕ) → keeps c w (length v) ≡ true → next c w v ≡ remasked c (next c w v)
-unfolding keeps left
 kept c w v k = go (ℕ_discrete (refusal c w (length v)) 0)
   where
-    go : Dec (refusal c w (length v) ≡ 0) → next c w v ≡ remasked c (next c w v)
+    go : Dec (refusal c w (length v) ≡ 0) → next c w v ≡ record c { mask = (next c w v).mask }
     go (yes ok) =
         let t : is_text c w ≡ true = rw (eq-eqb _ _ ok) at k in
-        subst (λ (x : Card). x ≡ remasked c x) (text_leaves c w t v ok) refl
-    go (no refused) = subst (λ (x : Card). x ≡ remasked c x) (sym (next_refused c w v refused)) refl
+        subst (λ (x : Card). x ≡ record c { mask = x.mask }) (text_used c w t v ok) refl
+    go (no refused) = subst (λ (x : Card). x ≡ record c { mask = x.mask }) (sym (next_refused c w v refused)) refl
+
+pub kept_of : (c : Card) (w : Write) (v : List ℕ) (r : Result Tally Refusal) (c' : Card) (v' : List ℕ) → Written c w v r c' v'
+    → keeps c w (length v) ≡ true → c' ≡ record c { mask = c'.mask }
+kept_of c w v r c' v' d k = subst (λ (x : Card). x ≡ record c { mask = x.mask }) (sym d.leaves) (kept c w v k)

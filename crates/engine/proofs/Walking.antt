@@ -14,14 +14,13 @@ use Rattle.span.specs.Spans.{spanned, enabled_in}
 use Rattle.card.specs.Registers.{table, row_in, row_at, ◌is◌}
 use Rattle.card.specs.Access.{stores}
 use Rattle.card.specs.declared.Card.{Card}
-use Rattle.card.specs.declared.Line.{Line}
 use Rattle.card.specs.declared.Row.{Row}
 use Rattle.card.specs.declared.Write.{Write}
 use Rattle.card.specs.declared.Register.TheVariants.{Continue}
 use Rattle.rules.specs.Modes.{mode_of, is_line, is_block, is_copy, register_of, effective}
 use Rattle.rules.specs.Lines.{walks, line_left, line_spans, spans_of}
 use Rattle.rules.specs.Refusal.{refusal}
-use Rattle.rules.specs.Writes.{count, in_block_mode, operation, picture, changed, moved_line, after_frame, after_register, next}
+use Rattle.rules.specs.Writes.{used_up, count, in_block_mode, operation, picture, changed, moved_line, after_frame, after_register, next}
 use Rattle.rules.specs.declared.Mode.{Mode}
 use Rattle.rules.specs.declared.Mode.TheVariants.{Simple, OpaqueStipple, TransparentStipple, OpaqueFill, TransparentFill, BlockStipple, BlockFill, Copy, OpaqueLine, TransparentLine, Unlisted}
 use Rattle.rules.proofs.Outcome.{walks_continue, walks_line, accepted_raster, picture-accepted, changed-accepted, count-accepted, next_register, next_frame, picture_refused, changed_refused, count_refused, next_refused}
@@ -29,7 +28,11 @@ use Rattle.plan.specs.Plan.{plan_of, judged, walk_number}
 use Rattle.plan.specs.declared.Plan.{Plan}
 use Rattle.plan.proofs.PlanNumber.{planned-number}
 use Rattle.walks.specs.Contract.{Walked}
-use Rattle.walks.specs.declared.Walk.{Walk}
+use Rattle.span.specs.declared.Tally.{Tally}
+use Rattle.rules.specs.declared.Refusal.{Refusal}
+use Rattle.rules.proofs.Numbers.{numbered, some_number}
+use Rattle.std.proofs.Common.{Result, Ok, Err, OnErr}
+use Rattle.rules.specs.Numbers.{number_of}
 use Rattle.engine.specs.Contract.{Written}
 use Rattle.engine.specs.Walks.{walked_on}
 
@@ -147,30 +150,60 @@ module _ (c : Card) (w : Write) (goes : walks c w ≡ true) (v : List ℕ) where
             sym (next_frame c w v ok h ∙ rw (s, l, (line_mode (mode_of c.registers.mode) l).1))
 
   -- what a walk has answered, where the plan has nothing at fault
-  module _ (z : judged (plan_of c w) w (length v) ≡ 0) {r : Walk} {v' : List ℕ} (d : Walked c w v r v') where
-    walk_numbered : r.number ≡ refusal c w (length v)
-    walk_numbered = d.number ∙ sym (walk_refusal c w (length v) goes z)
-
-    pub walk_refused : (r.number ≡ 0 → ⊥) → Written c w v (record { number = r.number; tally = r.tally; card = c }) v'
-    walk_refused h =
-        let some : refusal c w (length v) ≡ 0 → ⊥ = λ e. h (walk_numbered ∙ e) in
-        let b = ne_eqb r.number 0 h in
+  module _ (z : judged (plan_of c w) w (length v) ≡ 0) {c' : Card} {v' : List ℕ} where
+    pub walk_refused : {e : Refusal} → Walked c w v (Err e) c' v' → Written c w v (Err e) c' v'
+    walk_refused {e} d =
+        let b = numbered e in
+        let n = d.number ∙ sym (walk_refusal c w (length v) goes z) in
+        let some : refusal c w (length v) ≡ 0 → ⊥ = λ q. some_number e (n ∙ q) in
         record {
-          number = walk_numbered;
-          counts = d.counts ∙ (ap (λ (t : Bool). cond t (summed enabled_in (line_spans c w)) 0) b ∙ sym (count_refused c w v some));
-          changes = d.changes ∙ (ap (λ (t : Bool). cond t (changed_all (c.registers.raster % 16) (map (spanned (effective c)) (line_spans c w)) v) 0) b ∙ sym (changed_refused c w v some));
-          leaves = sym (next_refused c w v some);
-          shows = d.shows ∙ (ap (λ (t : Bool). cond t (drawn_all (c.registers.raster % 16) (map (spanned (effective c)) (line_spans c w)) v) v) b ∙ sym (picture_refused c w v some));
+          number = n;
+          counts = sym (count_refused c w v some);
+          changes = sym (changed_refused c w v some);
+          leaves = d.leaves ∙ (rw b (sym (next_refused c w v some)));
+          shows = d.shows ∙ (rw b (sym (picture_refused c w v some)));
         }
 
-    pub walk_written : r.number ≡ 0 → (x : Card) → x ≡ walked_on c w r.line → Written c w v (record { number = 0; tally = r.tally; card = x }) v'
-    walk_written h x e =
-        let ok : refusal c w (length v) ≡ 0 = sym walk_numbered ∙ h in
-        let b = eq-eqb r.number 0 h in
+    pub walk_written : {t : Tally} → Walked c w v (Ok t) c' v' → (x : Card) → x ≡ walked_on c w c'.line → Written c w v (Ok t) x v'
+    walk_written d x e =
+        let ok : refusal c w (length v) ≡ 0 = walk_refusal c w (length v) goes z ∙ sym d.number in
         record {
           number = sym ok;
-          counts = d.counts ∙ (ap (λ (t : Bool). cond t (summed enabled_in (line_spans c w)) 0) b ∙ walk_counts ok);
-          changes = d.changes ∙ (ap (λ (t : Bool). cond t (changed_all (c.registers.raster % 16) (map (spanned (effective c)) (line_spans c w)) v) 0) b ∙ walk_changes ok);
-          leaves = e ∙ (ap (λ (l : Line). walked_on c w l) (d.leaves ∙ ap (λ (t : Bool). cond t (line_left c w) c.line) b) ∙ walk_leaves ok);
-          shows = d.shows ∙ (ap (λ (t : Bool). cond t (drawn_all (c.registers.raster % 16) (map (spanned (effective c)) (line_spans c w)) v) v) b ∙ walk_shows ok);
+          counts = d.counts ∙ walk_counts ok;
+          changes = d.changes ∙ walk_changes ok;
+          leaves = e ∙ (ap (λ (y : Card). walked_on c w y.line) d.leaves ∙ walk_leaves ok);
+          shows = d.shows ∙ walk_shows ok;
         }
+
+    -- a continue keeps the mask, and its walk is all
+    pub walk_continue : eqb w.space 1 ≡ true → {t : Tally} → Walked c w v (Ok t) c' v' → Written c w v (Ok t) c' v'
+    unfolding walked_on
+    walk_continue s d = walk_written d c' (d.leaves ∙ rw s (ap (λ (y : Card). record c { line = y.line }) (sym d.leaves)))
+
+    -- a line uses a one-shot mask up
+    pub walk_line : eqb w.space 1 ≡ false → {t : Tally} → Walked c w v (Ok t) c' v' → (x : Card) → x ≡ record c' { mask = used_up c'.mask } → Written c w v (Ok t) x v'
+    unfolding walked_on
+    walk_line s d x e =
+        walk_written d x
+        (e ∙ rw s (ap (λ (y : Card). record { registers = y.registers; mask = used_up y.mask; copier = y.copier; line = c'.line; held = y.held }) d.leaves))
+
+-- ---- A refused write.
+
+module _ (c : Card) (w : Write) (v : List ℕ) where
+  pub write_refused : {p : Plan} → p ≡ plan_of c w → (e : Refusal) → number_of e ≡ judged p w (length v) → Written c w v (Err e) c v
+  write_refused of e h =
+      let n = at_fault c w (length v) of h (some_number e) in
+      let some : refusal c w (length v) ≡ 0 → ⊥ = λ q. some_number e (n ∙ q) in
+      record {
+        number = n;
+        counts = sym (count_refused c w v some);
+        changes = sym (changed_refused c w v some);
+        leaves = sym (next_refused c w v some);
+        shows = sym (picture_refused c w v some);
+      }
+
+  pub kept_back : {c' : Card} {v' : List ℕ} (r : Result Tally Refusal) → Written c w v r c' v' → OnErr r ((c' ≡ c) × (v' ≡ v))
+  kept_back (Ok t) d = tt
+  kept_back (Err e) d =
+      let some : refusal c w (length v) ≡ 0 → ⊥ = λ q. some_number e (d.number ∙ q) in
+      (d.leaves ∙ next_refused c w v some, d.shows ∙ picture_refused c w v some)

@@ -1,4 +1,4 @@
--- Which writes go the shorter way, and which are known to leave the card but for its pixel mask. Nothing here has to be believed: every way keeps the contract of any write.
+-- Which writes go the shorter way, and which leave the card but for its pixel mask. Nothing here has to be believed: every way keeps the contract of any write.
 use Rattle.std.specs.Prelude.{Bool, true, cond, not, ◌&&◌, ℕ, ◌-◌, ◌^◌, eqb}
 use Rattle.card.specs.declared.Card.{Card}
 use Rattle.card.specs.declared.Write.{Write}

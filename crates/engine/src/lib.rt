@@ -2,9 +2,7 @@
 // What a write means stands in the crate `rules`; what is promised here stands in specs/.
 #![tactic(auto)]
 
-ghost use Rattle.std.specs.Prelude.{◌≡◌, true, false, not, ◌%◌, eqb, length};
-ghost use Rattle.raster.specs.Pixel.{bit};
-ghost use Rattle.span.specs.Fragments.{counted};
+ghost use Rattle.std.specs.Prelude.{◌≡◌, true, false, Ok, length, OnErr};
 ghost use Rattle.rules.specs.Refusal.{refusal};
 ghost use Rattle.rules.specs.Lines.{walks};
 ghost use Rattle.plan.specs.Plan.{plan_of, judged};
@@ -13,32 +11,19 @@ ghost use Rattle.engine.specs.Text.{is_text, keeps};
 
 use card::{Card, ONES, REGISTERS, Write};
 use plan::{COPY, Plan};
+use rules::Refusal;
 use span::{Strokes, Tally};
 
-// The offset of continue.
+// The offset of continue, a number: a register write asks the register table once, in its plan.
 const CONTINUE: u32 = 0x004C;
 
-// The mode register in opaque stipple mode.
+// The mode register in opaque stipple mode, a number as the definition `is_text` has it: the mode is not decoded for it.
 const OPAQUE_STIPPLE: u32 = 0x01;
 
-// What a write answers: its number, what was drawn, and the next card.
-#[derive(Clone, Copy)]
-pub struct Answer {
-    pub number: u32,
-    pub tally: Tally,
-    pub card: Card,
-}
-
-// The same, and whether the write was refused or is text: no more of the card than its pixel mask has changed then, and whoever holds the card may store that alone.
-#[derive(Clone, Copy)]
-pub struct Told {
-    pub answer: Answer,
-    pub kept: bool,
-}
-
 // The plan of any write. A frame write never looks at the register table, a register write once.
-fn plan_of(card: Card, w: Write) -> Plan
-    ensures { result ≡ plan_of card w }
+#[tactic(auto, unfolding(plan::specs::Plan::plan_of))]
+fn plan_of(card: &Card, w: Write) -> Plan
+    ensures { result ≡ plan_of card.now w }
 {
     if w.space == REGISTERS {
         registers::plan(card, w)
@@ -47,34 +32,23 @@ fn plan_of(card: Card, w: Write) -> Plan
     }
 }
 
-// ---- The ways of a write whose plan has nothing at fault, under one contract.
+// ---- The ways of a write whose plan has nothing at fault, under one contract. Each changes the card in place. The card, the write and VRAM stand
+// apart in each: drawing only reads the card and changes VRAM, an effect the other way round.
 
-// Any write but a line or a continue: the effect and the drawing of its plan.
-fn by_plan(p: Plan, card: Card, w: Write, vram: &mut [u8]) -> Answer
-    requires { (p ≡ plan_of card w) × (walks card w ≡ false) × (refusal card w (length vram.old) ≡ 0) }
-    ensures { Written card w vram.old result vram.new }
+// Any write but a line or a continue: the drawing and then the effect of its plan. An effect that reads the picture draws nothing.
+fn by_plan(p: &Plan, card: &mut Card, w: Write, vram: &mut [u8]) -> Tally
+    requires { (p.now ≡ plan_of card.old w) × (walks card.old w ≡ false) × (refusal card.old w (length vram.old) ≡ 0) }
+    ensures { Written card.old w vram.old (Ok result) card.new vram.new }
 {
-    let effect = p.effect;
-    let next = effects::left(effect, card, w, vram);
     let tally = drawing::draw(p, card, vram);
-    Answer {
-        number: 0,
-        tally,
-        card: next,
-    }
-}
-
-// How many of 32 pixels a word enables.
-fn enabled_by(word: u32) -> u32
-    ensures { result ≡ counted 32 (λ j. bit word (j % 32)) }
-{
-    u32::count_ones(word)
+    effects::left(p.effect, card, w, vram);
+    tally
 }
 
 // Text, the shorter way (Ask 3): it goes by no operation, no plane mask and no plan. The held planes are kept as ever, by the mask.
-fn text(card: Card, w: Write, vram: &mut [u8]) -> Answer
-    requires { (is_text card w ≡ true) × (refusal card w (length vram.old) ≡ 0) }
-    ensures { Written card w vram.old result vram.new }
+fn text(card: &mut Card, w: Write, vram: &mut [u8]) -> Tally
+    requires { (is_text card.old w ≡ true) × (refusal card.old w (length vram.old) ≡ 0) }
+    ensures { Written card.old w vram.old (Ok result) card.new vram.new }
 {
     let foreground = card.registers.foreground;
     let background = card.registers.background;
@@ -90,18 +64,15 @@ fn text(card: Card, w: Write, vram: &mut [u8]) -> Answer
         width: 32,
     };
     let changed = strokes::text_at(vram, w.address, s);
-    let enabled = enabled_by(pixels);
-    let next = effects::mask_used(card);
-    Answer {
-        number: 0,
-        tally: Tally { enabled, changed },
-        card: next,
-    }
+    let enabled = pixels.count_ones();
+    effects::mask_used(card);
+    Tally { enabled, changed }
 }
 
 // Whether it is a line or a continue.
-fn is_walk(card: Card, w: Write) -> bool
-    ensures { result ≡ walks card w }
+#[tactic(auto, using(crate::proofs::Walking::is_continue), unfolding(rules::specs::Lines::walks))]
+fn is_walk(card: &Card, w: Write) -> bool
+    ensures { result ≡ walks card.now w }
 {
     if w.space == REGISTERS {
         return w.address == CONTINUE;
@@ -109,122 +80,65 @@ fn is_walk(card: Card, w: Write) -> bool
     modes::is_line(modes::mode_of(card.registers.mode))
 }
 
-// A line (Ask 5): its walk, which may still be refused. As every accepted frame write it uses a one-shot pixel mask up.
-// That `walks::draw` has two callers, this and `by_continue`, keeps it from being built into `tell`, where every other write would pay for it (docs/changes/ask-05.md).
-fn by_line(card: Card, w: Write, vram: &mut [u8]) -> Answer
-    requires { (walks card w ≡ true) × (eqb w.space 1 ≡ false) × (judged (plan_of card w) w (length vram.old) ≡ 0) }
-    ensures { Written card w vram.old result vram.new }
+// A line or a continue (Ask 5): its walk, which may still be refused. A line, as every accepted frame write, uses a one-shot pixel mask up; a continue is
+// a register write, and does not.
+fn by_walk(card: &mut Card, w: Write, vram: &mut [u8]) -> Result<Tally, Refusal>
+    requires { (walks card.old w ≡ true) × (judged (plan_of card.old w) w (length vram.old) ≡ 0) }
+    ensures { Written card.old w vram.old result card.new vram.new }
 {
-    let walk = walks::draw(card, w, vram);
-    let refused = walk.number;
-    let tally = walk.tally;
-    let line = walk.line;
-    if refused != 0 {
-        return Answer {
-            number: refused,
-            tally,
-            card,
-        };
+    let tally = walks::draw(card, w, vram)?;
+    if w.space == REGISTERS {
+        return Ok(tally);
     }
-    let mut used = effects::mask_used(card);
-    used.line = line;
-    Answer {
-        number: 0,
-        tally,
-        card: used,
-    }
-}
-
-// A continue: the same, but it is a register write, and does not.
-fn by_continue(card: Card, w: Write, vram: &mut [u8]) -> Answer
-    requires { (walks card w ≡ true) × (eqb w.space 1 ≡ true) × (judged (plan_of card w) w (length vram.old) ≡ 0) }
-    ensures { Written card w vram.old result vram.new }
-{
-    let walk = walks::draw(card, w, vram);
-    let refused = walk.number;
-    let tally = walk.tally;
-    let line = walk.line;
-    if refused != 0 {
-        return Answer {
-            number: refused,
-            tally,
-            card,
-        };
-    }
-    let mut next = card;
-    next.line = line;
-    Answer {
-        number: 0,
-        tally,
-        card: next,
-    }
+    effects::mask_used(card);
+    Ok(tally)
 }
 
 // Whether a write is text: an opaque stipple with operation 3 and a full plane mask. What seldom changes is asked first.
-fn is_text(card: Card, w: Write) -> bool
-    ensures { result ≡ is_text card w }
+#[tactic(auto, unfolding(crate::specs::Text::is_text))]
+fn is_text(card: &Card, w: Write) -> bool
+    ensures { result ≡ is_text card.now w }
 {
-    if card.registers.raster != COPY as u32 {
-        return false;
-    }
-    if card.registers.plane != ONES {
-        return false;
-    }
-    if card.registers.mode != OPAQUE_STIPPLE {
-        return false;
-    }
-    w.space != REGISTERS
+    card.registers.raster == COPY as u32
+        && card.registers.plane == ONES
+        && card.registers.mode == OPAQUE_STIPPLE
+        && w.space != REGISTERS
 }
 
 // ---- One write.
 
-// The answer of a walk, which keeps the card where it was refused.
-fn of_walk(answer: Answer) -> Told
-    ensures { (result.answer ≡ answer) × (result.kept ≡ not (eqb answer.number 0)) }
-{
-    let kept = answer.number != 0;
-    Told { answer, kept }
-}
-
-// A refused write answers its number with no pixel counted or changed, and leaves the card and every byte of VRAM. Beside the answer it says what a host need not store.
-pub fn tell(card: Card, w: Write, vram: &mut [u8]) -> Told
-    ensures { Written card w vram.old result.answer vram.new
-        × (result.kept ≡ keeps card w (length vram.old)) }
+// On a card that is lent: what was drawn, and the card changed in place. A refused write leaves the card and every byte of VRAM, and text all of
+// the card but its pixel mask.
+pub fn write_to(card: &mut Card, w: Write, vram: &mut [u8]) -> Result<Tally, Refusal>
+    ensures wrote { Written card.old w vram.old result card.new vram.new }
+    ensures refused { OnErr result ((card.new ≡ card.old) × (vram.new ≡ vram.old)) }
+    ensures kept { keeps card.old w (length vram.old) ≡ true → card.new ≡ record card.old { mask = card.new.mask } }
 {
     let p = plan_of(card, w);
-    let number = refusal::refuse(p, w, vram.len());
-    if number != 0 {
-        let tally = Tally::NONE;
-        let answer = Answer {
-            number,
-            tally,
-            card,
-        };
-        return Told { answer, kept: true };
-    }
+    refusal::refuse(&p, w, vram.len())?;
     if is_text(card, w) {
-        let answer = text(card, w, vram);
-        return Told { answer, kept: true };
+        return Ok(text(card, w, vram));
     }
     if is_walk(card, w) {
-        if w.space == REGISTERS {
-            let answer = by_continue(card, w, vram);
-            return of_walk(answer);
-        }
-        let answer = by_line(card, w, vram);
-        return of_walk(answer);
+        return by_walk(card, w, vram);
     }
-    let answer = by_plan(p, card, w, vram);
-    Told {
-        answer,
-        kept: false,
-    }
+    Ok(by_plan(&p, card, w, vram))
 }
 
-// The answer alone.
+// What a write to a card by value answers: what was drawn, or why it was refused, and the next card.
+#[derive(Clone, Copy)]
+pub struct Answer {
+    pub drawn: Result<Tally, Refusal>,
+    pub card: Card,
+}
+
+// On a card by value.
 pub fn write(card: Card, w: Write, vram: &mut [u8]) -> Answer
-    ensures { Written card w vram.old result vram.new }
+    ensures wrote { Written card w vram.old result.drawn result.card vram.new }
+    ensures refused { OnErr result.drawn ((result.card ≡ card) × (vram.new ≡ vram.old)) }
+    ensures kept { keeps card w (length vram.old) ≡ true → result.card ≡ record card { mask = result.card.mask } }
 {
-    let told = tell(card, w, vram);
-    told.answer
+    let mut card = card;
+    let drawn = write_to(&mut card, w, vram);
+    Answer { drawn, card }
 }

@@ -8,16 +8,16 @@ use native.Mathlib.Omega.{arith}
 use lib.Dec.{eqb}
 use lib.ListN.{length, take, drop, length-append, length-drop, take-append-drop}
 use lib.Seq.{sets, sets-eq, take-append_seam, drop-append-add, drop-drop, drop_at, length-take-le}
-use borrow.Author.Tests.{eq-eqb, ne_eqb, eqb-true}
+use borrow.Author.Tests.{eqb-true}
 use Rattle.card.specs.declared.Write.{Write}
 use Rattle.span.specs.Fragments.{Bytes}
 use Rattle.format.specs.Bytes.{word, word_at, bytes}
 use Rattle.format.specs.Traces.{largest, header, entry, entries, encoded, writes, is_trace}
-use Rattle.format.specs.Recording.{start_number, start_length, started, one_more_number, one_more_length, holds_trace, append_number, append_length, appended, grown, one_more_buffer}
+use Rattle.format.specs.Recording.{one_more_number, one_more_length, holds_trace, append_number, appended, grown, one_more_buffer}
 use Rattle.format.proofs.Bytes.{word-take, front, after}
 use Rattle.format.proofs.Inside.{word_inside}
 use Rattle.format.proofs.Tested.{Headed, headed, fitting, traced, counted}
-use Rattle.format.proofs.RecordingTests.{room_to_start, refused_length, accepted-length, Growable, appends_to_trace}
+use Rattle.format.proofs.RecordingTests.{Growable, appends_to_trace}
 use Rattle.format.proofs.Encoding.{entries-writes, length-writes}
 
 -- stores from the end of p on leave p
@@ -27,23 +27,10 @@ sets_seam p q xs n e h =
     ∙ sets-eq xs (p ++ q) (length p) (omega (arith, length-append p q))
     ∙ rw (take-append_seam, drop-append-add)
 
--- a refused start
-pub not_started : (b : List ℕ) (vram : ℕ) {n : ℕ} → n ≡ start_number (length b) vram → (n ≡ 0 → ⊥)
-    → (n ≡ start_number (length b) vram) × (0 ≡ start_length (length b) vram) × (b ≡ started b vram)
-unfolding start_length started
-not_started b vram e h = let z : eqb (start_number (length b) vram) 0 ≡ false = ne_eqb _ _ (λ f. h (e ∙ f)) in (e, rw z, rw z)
-
--- an accepted one
-stored_header : (b : List ℕ) (vram : ℕ) → 16 ≤ length b → sets b 0 (header 0 vram) ≡ encoded vram [] ++ drop 16 b
+-- the header of a start, stored
+pub stored_header : (b : List ℕ) (vram : ℕ) → 16 ≤ length b → sets b 0 (header 0 vram) ≡ encoded vram [] ++ drop 16 b
 unfolding encoded entries header bytes
 stored_header b vram h = sets_seam [] b (header 0 vram) 0 refl h
-
-pub now_started : (b : List ℕ) (vram : ℕ) {n : ℕ} {v : List ℕ} → n ≡ start_number (length b) vram → n ≡ 0 → v ≡ sets b 0 (header 0 vram)
-    → (n ≡ start_number (length b) vram) × (16 ≡ start_length (length b) vram) × (v ≡ started b vram)
-unfolding start_length started
-now_started b vram e h s =
-    let z : eqb (start_number (length b) vram) 0 ≡ true = eq-eqb _ _ (sym e ∙ h) in
-    (e, rw z, rw z (s ∙ stored_header b vram (room_to_start _ _ (sym e ∙ h))))
 
 -- ---- One entry more: the header counts it, and the entries and every byte past it are as they were.
 
@@ -139,19 +126,6 @@ grown-trace b used w ws n e =
     let count : word (take used b) 0 + 1 ≡ length (ws ++ (w ∷ [])) = omega (arith, n, length-append ws (w ∷ [])) in
     sym (rw (entries-append ws w, e, ← count) (simp append_assoc))
 
--- ---- As the code answers.
-
-module _ (t : Bool) (b : List ℕ) (used : ℕ) (w : Write) {n : ℕ} (e : n ≡ one_more_number t b used w) where
-  pub not_grown : (n ≡ 0 → ⊥) → (n ≡ one_more_number t b used w) × (0 ≡ one_more_length t b used w) × (b ≡ one_more_buffer t b used w)
-  unfolding one_more_buffer
-  not_grown h =
-      let z : one_more_number t b used w ≡ 0 → ⊥ = λ f. h (e ∙ f) in (e, refused_length t b used w z, rw (ne_eqb _ _ z))
-
-  pub now_grown : n ≡ 0 → {v : List ℕ} → v ≡ grown b used w
-      → (n ≡ one_more_number t b used w) × (used + 12 ≡ one_more_length t b used w) × (v ≡ one_more_buffer t b used w)
-  unfolding one_more_buffer
-  now_grown h s = let z = sym e ∙ h in (e, accepted-length t b used w z, rw (eq-eqb _ _ z) s)
-
 -- ---- Appending: the entries of a trace are those of its writes.
 
 pub trace-grown : (b : List ℕ) (used : ℕ) (w : Write) → Bytes b → is_trace (take used b) ≡ true
@@ -180,8 +154,3 @@ Answered t b used w n k v = (n ≡ one_more_number t b used w) × (k ≡ one_mor
 
 pub as_tested : (t u : Bool) (b : List ℕ) (used : ℕ) (w : Write) → t ≡ u → {n k : ℕ} {v : List ℕ} → Answered t b used w n k v → Answered u b used w n k v
 as_tested t u b used w e {n} {k} {v} h = subst (λ (x : Bool). Answered x b used w n k v) e h
-
-pub as_appended : (t : Bool) (b : List ℕ) (used : ℕ) (w : Write) → Bytes b → t ≡ holds_trace b used → {n k : ℕ} {v : List ℕ} → Answered t b used w n k v
-    → (n ≡ append_number b used w) × (k ≡ append_length b used w) × (v ≡ appended b used w)
-as_appended t b used w fits e h =
-    let (number, lengths, leaves) = as_tested t (holds_trace b used) b used w e h in (number, lengths, leaves ∙ appending b used w fits)

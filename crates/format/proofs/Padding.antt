@@ -1,17 +1,13 @@
--- The test of a part, entry after entry, as the code makes it. Assumes nothing.
+-- The test of a part, entry after entry. Assumes nothing.
 use mathlib.Core.Path.{◌≡◌, ap}
-use mathlib.Core.Bool.{true, false}
+use mathlib.Core.Bool.{false}
 use mathlib.Core.List.{List}
 use Prim.Native.Nat.{ℕ, suc, ◌+◌, ◌-◌, ◌*◌, ◌/◌, ◌%◌, ◌≤◌, ◌<◌}
 use native.Mathlib.Omega.{arith}
 use lib.ListN.{length, get_or}
-use borrow.Author.Tests.{eq-eqb, ne_eqb, le-leb, lt-leb}
+use borrow.Author.Tests.{eq-eqb, le-leb, lt-leb}
 use Rattle.format.specs.Traces.{largest, padded_at, well_formed, well_formed_up_to}
 use Rattle.format.proofs.HeaderTests.{and_false}
-
-pub not_whole : (v : List ℕ) → (length v % 12 ≡ 0 → ⊥) → false ≡ well_formed v
-unfolding well_formed_up_to
-not_whole v h = simp (ne_eqb _ _ h)
 
 -- too many, whatever the number allowed
 pub too_many : (most : ℕ) (v : List ℕ) → most < length v / 12 → false ≡ well_formed_up_to most v
@@ -23,23 +19,10 @@ pub by_padding : (v : List ℕ) → length v % 12 ≡ 0 → length v / 12 ≤ la
 unfolding well_formed_up_to
 by_padding v h g = simp (eq-eqb _ _ h, le-leb _ _ g)
 
--- no entry is left
-pub no_pads : (v : List ℕ) (a k : ℕ) → k ≡ 0 → true ≡ padded_at v a k
-unfolding padded_at
-no_pads v a k e = rw e
-
 -- entry i of n
 module _ (v : List ℕ) (i n : ℕ) (h : i < n) where
   left : n - i ≡ suc (n - (i + 1))
   left = omega arith
-
-  pub first_pad : (get_or v (12 * i + 2) 0 ≡ 0 → ⊥) → false ≡ padded_at v (12 * i) (n - i)
-  unfolding padded_at
-  first_pad e = rw left (simp (ne_eqb _ _ e))
-
-  pub second_pad : get_or v (12 * i + 2) 0 ≡ 0 → (get_or v (12 * i + 3) 0 ≡ 0 → ⊥) → false ≡ padded_at v (12 * i) (n - i)
-  unfolding padded_at
-  second_pad d e = rw left (simp (eq-eqb _ _ d, ne_eqb _ _ e))
 
   -- the rest decides
   pub next_pads : get_or v (12 * i + 2) 0 ≡ 0 → get_or v (12 * i + 3) 0 ≡ 0 → padded_at v (12 * (i + 1)) (n - (i + 1)) ≡ padded_at v (12 * i) (n - i)

@@ -1,10 +1,16 @@
 -- Scope paper, "Traces", the third paragraph: starting a trace in a buffer, and appending to it. And, beside change request 6, extending it.
 -- A refused one returns length 0, and the buffer keeps every byte.
-use Rattle.std.specs.Prelude.{Bool, cond, not, ◌&&◌, ◌||◌, List, [], ◌∷◌, ◌++◌, ℕ, ◌+◌, eqb, ltb, leb, length, take, drop}
+use Rattle.std.specs.Prelude.{Result, Ok, Err, Bool, cond, not, ◌&&◌, ◌||◌, List, [], ◌∷◌, ◌++◌, ℕ, ◌+◌, eqb, ltb, leb, length, take, drop}
 use Rattle.card.specs.declared.Write.{Write}
 use Rattle.rules.specs.Refusal.{bad_length, bad_space}
+use Rattle.rules.specs.declared.Refusal.{Refusal}
 use Rattle.format.specs.Bytes.{word}
 use Rattle.format.specs.Traces.{header_size, entry_size, largest, header, entry, encoded, writes, fits_header, is_trace}
+
+-- the length that an answer tells, 0 where it is refused
+abbrev pub length_told : Result ℕ Refusal → ℕ
+length_told (Ok n) = n
+length_told (Err e) = 0
 
 -- ---- Starting.
 

@@ -7,7 +7,7 @@ pub const HEADER: usize = 16;
 
 pub const ENTRY: usize = 12;
 
-// The same as 32-bit numbers: the offset of the entries, and the step from one to the next.
+// The same as 32-bit numbers, as a header has them: the offset of the entries, and the step from one to the next. They have names so that no reader casts.
 pub const OFFSET: u32 = HEADER as u32;
 
 pub const STEP: u32 = ENTRY as u32;

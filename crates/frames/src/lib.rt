@@ -6,19 +6,16 @@ ghost use Rattle.rules.specs.Modes.{mode_of, fill_low, fill_first, fill_width};
 ghost use Rattle.plan.specs.Plan.{frame_plan, drawing_plan, copy_plan, halved_plan, rotated as rotated_by};
 ghost use Rattle.plan.specs.declared.Paint.TheVariants.{Stippled, Tiled};
 
-use bounds::ALL_LANES;
-use card::{CLEAR, Card, ONES, Write};
+use card::{ALL_LANES, CLEAR, Card, ONES, Write};
 use plan::{COPY, Effect, Faults, LAST_OPERATION, Paint, Plan};
 use rules::Mode;
 
-// One more than the largest word.
-const WORD: u64 = 4294967296;
-
 // Of any frame write.
-pub fn plan(card: Card, w: Write) -> Plan
-    ensures { result ≡ frame_plan (mode_of card.registers.mode) card w }
+#[tactic(auto, unfolding(rules::specs::Modes::frame_span))]
+pub fn plan(card: &Card, w: Write) -> Plan
+    ensures { result ≡ frame_plan (mode_of card.now.registers.mode) card.now w }
 {
-    let registers = card.registers;
+    let registers = &card.registers;
     let m = modes::mode_of(registers.mode);
     let foreground = registers.foreground;
     let background = registers.background;
@@ -36,8 +33,10 @@ pub fn plan(card: Card, w: Write) -> Plan
     };
     match m {
         Mode::Simple => {
-            let mut faults = faults;
-            faults.lanes = false;
+            let faults = Faults {
+                lanes: false,
+                ..faults
+            };
             let enable = w.lanes as u32 & pixels;
             let paint = tile(data, data, 0);
             drawing(faults, address, 4, op, enable, paint)
@@ -70,11 +69,12 @@ pub fn plan(card: Card, w: Write) -> Plan
             drawing(faults, f.first, f.width, COPY, f.mask, paint)
         }
         Mode::Copy => of_copy(faults, card.copier.writing, w, op),
-        Mode::OpaqueLine => drawing(faults, 0, 0, op, 0, Paint::Half),
-        Mode::TransparentLine => drawing(faults, 0, 0, op, 0, Paint::Half),
+        Mode::OpaqueLine | Mode::TransparentLine => { drawing(faults, 0, 0, op, 0, Paint::Half) }
         Mode::Unlisted => {
-            let mut unlisted = faults;
-            unlisted.mode = true;
+            let unlisted = Faults {
+                mode: true,
+                ..faults
+            };
             drawing(unlisted, 0, 0, op, 0, Paint::Half)
         }
     }
@@ -101,16 +101,16 @@ fn fill_of(mask: u32, w: Write) -> Fill
     }
 }
 
-// The word with its bit `low` first: 32 bits of the word and itself above it.
+// The word with its bit `low` first.
+#[tactic(auto, using(crate::proofs::Rotation::rotated_whole))]
 fn rotated(x: u32, low: u32) -> u32
     ensures { result ≡ rotated_by x low }
 {
-    let wide = x as u64;
-    let twice = wide * WORD + wide;
-    ((twice >> (low % 32)) % WORD) as u32
+    x.rotate_right(low)
 }
 
-// A frame write in any mode but copy.
+// A frame write in any mode but copy. Its six values stand apart, and no arm has a plan or a span of its own to take others from by `..base`: each such
+// struct is one more that every write sets to 0 first (16 to 90 instructions a write, measured).
 fn drawing(faults: Faults, first: usize, width: u32, op: u8, enable: u32, paint: Paint) -> Plan
     ensures { result ≡ drawing_plan faults first width op enable paint }
 {
@@ -125,6 +125,7 @@ fn drawing(faults: Faults, first: usize, width: u32, op: u8, enable: u32, paint:
     }
 }
 
+// By a call a paint is a line; so is `tile`.
 fn stipple(bits: u32, foreground: u32, background: u32, at: usize) -> Paint
     ensures { result ≡ Stippled bits foreground background at }
 {
@@ -146,8 +147,10 @@ fn tile(low: u32, high: u32, at: usize) -> Paint
 fn of_copy(faults: Faults, writing: u32, w: Write, op: u8) -> Plan
     ensures { result ≡ copy_plan faults writing w op }
 {
-    let mut faults = faults;
-    faults.address = w.address % 8 != 0;
+    let faults = Faults {
+        address: w.address % 8 != 0,
+        ..faults
+    };
     let first = w.address as usize;
     if writing == CLEAR {
         return halved(faults, first, op, 0, Effect::ReadsSource);
@@ -155,6 +158,7 @@ fn of_copy(faults: Faults, writing: u32, w: Write, op: u8) -> Plan
     halved(faults, first, op, w.data, Effect::DrawsDestination)
 }
 
+// A half of copy mode, written out as in `drawing`.
 fn halved(faults: Faults, first: usize, op: u8, enable: u32, effect: Effect) -> Plan
     ensures { result ≡ halved_plan faults first op enable effect }
 {

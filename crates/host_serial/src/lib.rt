@@ -1,7 +1,7 @@
-// A trace that arrives in chunks, as a C program hands it in: reader and card by value. What these functions mean stands in the crate `line`.
+// A trace that arrives in chunks, as a C program hands it in: reader and card by value, as C knows these entries. Here they are lent on, and changed in
+// place. What these functions mean stands in the crate `line`.
 // They stand apart from the other entries for C (crates `host` and `host_run`) since each of these crates is compiled by itself, and a function with one caller
-// is built into it, so that no card is copied at the call (measured: docs/changes/words.md). Here the engine's write is built into `serial::draw`, which has two
-// callers itself and is handed a copy.
+// is built into it: here the engine's write into `serial::draw`, which has two callers itself.
 #![tactic(auto)]
 
 ghost use Rattle.std.specs.Prelude.{◌≡◌};
@@ -20,16 +20,23 @@ pub extern "C" fn zevkholtai_new_reader() -> Reader
 
 // One chunk, with the card and VRAM as the last one left them.
 #[unsafe(no_mangle)]
-pub extern "C" fn zevkholtai_chunk(reader: Reader, card: Card, bytes: &[u8], vram: &mut [u8]) -> Fed
+pub extern "C" fn zevkholtai_chunk(
+    mut reader: Reader,
+    mut card: Card,
+    bytes: &[u8],
+    vram: &mut [u8],
+) -> Fed
     ensures { standing result.reader result.card vram.new ≡ chunk bytes.now (standing reader card vram.old) }
 {
-    serial::chunk(reader, card, bytes, vram)
+    serial::chunk(&mut reader, &mut card, bytes, vram);
+    Fed { reader, card }
 }
 
 // The end call.
 #[unsafe(no_mangle)]
-pub extern "C" fn zevkholtai_end(reader: Reader) -> Reader
+pub extern "C" fn zevkholtai_end(mut reader: Reader) -> Reader
     ensures { result ≡ ended reader }
 {
-    serial::end(reader)
+    serial::end(&mut reader);
+    reader
 }

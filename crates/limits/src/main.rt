@@ -5,25 +5,15 @@
 mod traces;
 
 use card::{Card, Write};
+use rules::Refusal;
 use std::io;
 
+// As the bus has them: address and data of a write are numbers.
 const MODE: u32 = 0x0030;
 
 const OPAQUE_FILL: u32 = 0x21;
 
-fn register(card: Card, offset: u32, data: u32) -> Card {
-    let w = Write {
-        space: 1,
-        lanes: 15,
-        address: offset,
-        data,
-    };
-    let mut vram = [0u8; 64];
-    let a = engine::write(card, w, &mut vram);
-    a.card
-}
-
-// A number and a count of something, on a line of their own.
+// A number and a count of something, on a line of their own: a run that is refused has both.
 pub(crate) fn line(
     rt: &impl Print,
     what: &str,
@@ -34,92 +24,71 @@ pub(crate) fn line(
     println!(rt; "{what}: number {number}, {name} {count}")
 }
 
-// What a frame write answers.
-fn says(
+// The same of an answer: its count where it is accepted, else its number.
+pub(crate) fn answered(
     rt: &impl Print,
     what: &str,
-    card: Card,
-    address: u32,
-    data: u32,
-    vram: &mut [u8],
+    name: &str,
+    answer: Result<u64, Refusal>,
 ) -> io::Result<()> {
-    let w = Write {
-        space: 0,
-        lanes: 15,
-        address,
-        data,
-    };
-    let a = engine::write(card, w, vram);
-    line(rt, what, a.number, "count", a.tally.enabled as u64)
+    match answer {
+        Ok(count) => line(rt, what, 0, name, count),
+        Err(refusal) => line(rt, what, u32::from(refusal), name, 0),
+    }
 }
 
-fn longest(rt: &impl Print, vram: &mut [u8; 2097152]) -> io::Result<()> {
-    says(
-        rt,
-        "first pixels of 2097152",
-        Card::reset(0),
-        0,
-        0x44332211,
-        vram,
-    )?;
-    says(
-        rt,
-        "last pixels of 2097152",
-        Card::reset(0),
-        2097148,
-        0x44332211,
-        vram,
-    )?;
-    says(
-        rt,
-        "one word past 2097152",
-        Card::reset(0),
-        2097152,
-        0x44332211,
-        vram,
-    )
+// What each frame write answers, all of them made on one card. VRAM is an array of any length, and lent as a slice here: where an array of 2 MB is written out,
+// the check would unfold it.
+fn says<const N: usize>(
+    rt: &impl Print,
+    card: Card,
+    writes: &[(&str, Write)],
+    vram: &mut [u8; N],
+) -> io::Result<()> {
+    for (what, w) in writes {
+        let drawn = engine::write(card, *w, vram).drawn;
+        answered(rt, what, "count", drawn.map(|tally| tally.enabled as u64))?;
+    }
+    Ok(())
 }
 
-fn too_long(rt: &impl Print, vram: &mut [u8; 2097216]) -> io::Result<()> {
-    says(
-        rt,
-        "first pixels of 2097216",
-        Card::reset(0),
-        0,
-        0x44332211,
-        vram,
-    )
+fn longest(rt: &impl Print) -> io::Result<()> {
+    let writes = [
+        ("first pixels of 2097152", Write::frame(0, 0x44332211)),
+        ("last pixels of 2097152", Write::frame(2097148, 0x44332211)),
+        ("one word past 2097152", Write::frame(2097152, 0x44332211)),
+    ];
+    says(rt, Card::reset(0), &writes, &mut [0; 2097152])
+}
+
+fn too_long(rt: &impl Print) -> io::Result<()> {
+    let writes = [("first pixels of 2097216", Write::frame(0, 0x44332211))];
+    says(rt, Card::reset(0), &writes, &mut [0; 2097216])
 }
 
 fn fills(rt: &impl Print) -> io::Result<()> {
-    let card = register(Card::reset(0), MODE, OPAQUE_FILL);
-    let mut vram = [0u8; 2048];
-    says(rt, "2048 pixels at 0 of 2048", card, 0, 2047, &mut vram)?;
-    says(rt, "2048 pixels at 4 of 2048", card, 4, 2047, &mut vram)?;
-    says(rt, "2044 pixels at 4 of 2048", card, 4, 2043, &mut vram)?;
-    says(
-        rt,
-        "2048 pixels at the top of the address space",
-        card,
-        4294967292,
-        2047,
+    let mut vram = [0; 2048];
+    let card = engine::write(
+        Card::reset(0),
+        Write::register(MODE, OPAQUE_FILL),
         &mut vram,
     )
-}
-
-fn lent_longest(rt: &impl Print) -> io::Result<()> {
-    let mut vram = [0u8; 2097152];
-    longest(rt, &mut vram)
-}
-
-fn lent_too_long(rt: &impl Print) -> io::Result<()> {
-    let mut vram = [0u8; 2097216];
-    too_long(rt, &mut vram)
+    .card;
+    let writes = [
+        ("2048 pixels at 0 of 2048", Write::frame(0, 2047)),
+        ("2048 pixels at 4 of 2048", Write::frame(4, 2047)),
+        ("2044 pixels at 4 of 2048", Write::frame(4, 2043)),
+        (
+            "2048 pixels at the top of the address space",
+            Write::frame(4294967292, 2047),
+        ),
+    ];
+    says(rt, card, &writes, &mut vram)
 }
 
 fn main(rt: HostRuntime) -> io::Result<()> {
-    lent_longest(&rt)?;
-    lent_too_long(&rt)?;
+    longest(&rt)?;
+    too_long(&rt)?;
     fills(&rt)?;
     traces::limits(&rt)
 }

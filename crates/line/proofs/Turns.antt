@@ -2,13 +2,13 @@
 -- Assumes nothing.
 use mathlib.Core.Path.{◌≡◌, refl, ap, sym, ◌∙◌}
 use mathlib.Core.Bool.{true, false}
-use mathlib.Core.List.{List}
-use Prim.Native.Nat.{ℕ, suc, ◌+◌, ◌≤◌, ◌<◌}
+use mathlib.Core.List.{List, ◌∷◌}
+use Prim.Native.Nat.{ℕ, ◌+◌, ◌≤◌, ◌<◌}
 use native.Mathlib.Nat.{add-zero}
 use native.Mathlib.Omega.{arith}
 use lib.Dec.{eqb}
 use lib.ListN.{length, get_or, drop, length-drop, drop_of_length-le}
-use lib.Seq.{drop-cons, drop-drop, get_or-drop}
+use lib.Seq.{drop-drop, get_or-drop}
 use borrow.Author.Tests.{eqb-true, leb-true, not-true}
 use Rattle.card.specs.Registers.{is_set}
 use Rattle.card.specs.declared.Write.{Write}
@@ -20,7 +20,7 @@ use Rattle.line.specs.Serial.{Standing, complete, draws, byte, reads, reads_up_t
 use Rattle.line.specs.Arrival.{entry_there}
 use Rattle.line.specs.Ahead.{whole_at}
 use Rattle.line.proofs.Steps.{reads-stuck}
-use Rattle.line.proofs.Kept.{to_sound, of_sound, byte_size, byte-sound, byte_room, draws_size, draws-sound, draws_room}
+use Rattle.line.proofs.Kept.{to_sound, of_sound, byte_size, byte-sound, draws_size, draws-sound}
 use Rattle.line.proofs.Units.{entry-drawn}
 
 -- what the tests of a whole entry say, where they hold
@@ -61,55 +61,39 @@ whole_read v a s z room w =
     pad : (i : ℕ) → get_or v (a + i) 0 ≡ 0 → get_or (drop a v) i 0 ≡ 0
     pad i p = get_or-drop a v i 0 ∙ p
 
--- where the loop stands at byte a of v: it began at s₀, and is at s
-pub record Going (v : List ℕ) (a : ℕ) (s₀ s : Standing) : Type 0 where
-  pub within : a ≤ length v
+-- where the loop stands before the bytes v that are left: it began at s₀ before v₀, and is at s
+pub record Going (v₀ : List ℕ) (s₀ : Standing) (v : List ℕ) (s : Standing) : Type 0 where
   pub can_be : sound s.reader ≡ true
-  pub room : length s.reader.waiting ≡ 16
   pub size : length s.picture ≡ length s₀.picture
-  pub left : reads (drop a v) s ≡ reads v s₀
+  pub left : reads v s ≡ reads v₀ s₀
 
-pub begins : (v : List ℕ) (s : Standing) → sound s.reader ≡ true → length s.reader.waiting ≡ 16 → Going v 0 s s
-begins v s e h = record { within = omega arith; can_be = e; room = h; size = refl; left = refl }
+pub begins : (v : List ℕ) (s : Standing) → sound s.reader ≡ true → Going v s v s
+begins v s e = record { can_be = e; size = refl; left = refl }
 
-module _ {v : List ℕ} {a : ℕ} {s₀ s : Standing} (g : Going v a s₀ s) where
+module _ {v₀ : List ℕ} {s₀ : Standing} {v : List ℕ} {s : Standing} (g : Going v₀ s₀ v s) where
   -- the loop ends at the end of the chunk, or where a number sticks
-  pub at_end : length v ≤ a → s ≡ reads v s₀
+  pub at_end : length v < 1 → s ≡ reads v₀ s₀
   unfolding reads_up_to
-  at_end h = ap (λ (u : List ℕ). reads u s) (sym (drop_of_length-le v {i = a} h)) ∙ g.left
+  at_end h = ap (λ (u : List ℕ). reads u s) (sym (drop_of_length-le v {i = 0} (omega arith))) ∙ g.left
 
-  pub at_number : (s.reader.number ≡ 0 → ⊥) → s ≡ reads v s₀
-  at_number n = sym (reads-stuck largest (drop a v) s n) ∙ g.left
+  pub at_number : (s.reader.number ≡ 0 → ⊥) → s ≡ reads v₀ s₀
+  at_number n = sym (reads-stuck largest v s n) ∙ g.left
 
   -- one byte
-  pub turn_byte : a < length v → {t : Standing} → t ≡ byte s (get_or v a 0) → Going v (a + 1) s₀ t
+  pub turn_byte : {b : ℕ} {after : List ℕ} → v ≡ b ∷ after → {t : Standing} → t ≡ byte s b → Going v₀ s₀ after t
   unfolding reads_up_to
-  turn_byte h {t} e =
+  turn_byte {b} {after} f {t} e =
       record {
-        within = omega arith;
-        can_be = ap (λ (x : Standing). sound x.reader) e ∙ of_sound largest _ (byte-sound largest s (get_or v a 0) (to_sound largest _ g.can_be));
-        room = ap (λ (x : Standing). length x.reader.waiting) e ∙ byte_room largest s (get_or v a 0) g.room;
-        size = ap (λ (x : Standing). length x.picture) e ∙ byte_size largest s (get_or v a 0) ∙ g.size;
-        left = next;
+        can_be = ap (λ (x : Standing). sound x.reader) e ∙ of_sound largest _ (byte-sound largest s b (to_sound largest _ g.can_be));
+        size = ap (λ (x : Standing). length x.picture) e ∙ byte_size largest s b ∙ g.size;
+        left = ap (reads after) e ∙ ap (λ (u : List ℕ). reads u s) (sym f) ∙ g.left;
       }
-    where
-      suc-next : a + 1 ≡ suc a
-      suc-next = omega arith
-
-      next : reads (drop (a + 1) v) t ≡ reads v s₀
-      next =
-          ap (λ (n : ℕ). reads (drop n v) t) suc-next
-          ∙ ap (reads (drop (suc a) v)) e
-          ∙ ap (λ (u : List ℕ). reads u s) (sym (drop-cons v a 0 h))
-          ∙ g.left
 
   -- one whole entry
-  pub turn_entry : s.reader.number ≡ 0 → Whole s.reader v a → {t : Standing} → t ≡ draws (write_at v a) s → Going v (a + 12) s₀ t
-  turn_entry z w {t} e =
+  pub turn_entry : s.reader.number ≡ 0 → length s.reader.waiting ≡ 16 → Whole s.reader v 0 → {t : Standing} → t ≡ draws (write_at v 0) s → Going v₀ s₀ (drop 12 v) t
+  turn_entry z room w {t} e =
       record {
-        within = w.stands.long;
-        can_be = ap (λ (x : Standing). sound x.reader) e ∙ of_sound largest _ (draws-sound largest (write_at v a) s w.opened w.more (to_sound largest _ g.can_be));
-        room = ap (λ (x : Standing). length x.reader.waiting) e ∙ draws_room (write_at v a) s;
-        size = ap (λ (x : Standing). length x.picture) e ∙ draws_size (write_at v a) s ∙ g.size;
-        left = ap (reads (drop (a + 12) v)) e ∙ sym (whole_read v a s z g.room w) ∙ g.left;
+        can_be = ap (λ (x : Standing). sound x.reader) e ∙ of_sound largest _ (draws-sound largest (write_at v 0) s w.opened w.more (to_sound largest _ g.can_be));
+        size = ap (λ (x : Standing). length x.picture) e ∙ draws_size (write_at v 0) s ∙ g.size;
+        left = ap (reads (drop 12 v)) e ∙ sym (whole_read v 0 s z room w) ∙ g.left;
       }

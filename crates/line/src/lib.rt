@@ -4,7 +4,8 @@
 
 use card::Card;
 
-// What waits between two chunks. Every field is a word or an array of a multiple of four bytes, so every pattern of bytes is a reader.
+// What waits between two chunks. C keeps it and hands it in: every field is a word or an array of a multiple of four bytes, so every pattern of bytes is a
+// reader. So the number is no Refusal, and the mark no bool.
 #[repr(C)]
 #[derive(Clone, Copy)]
 pub struct Reader {

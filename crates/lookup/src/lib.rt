@@ -6,6 +6,7 @@ ghost use Rattle.card.specs.Registers.{row, row_at};
 
 use card::{ERROR_UNIT, ONES, Register, Row};
 
+// By a call a row is a line.
 fn listed(offset: u32, register: Register, kept: u32, reset: u32, readable: bool) -> Row
     ensures { result ≡ row offset register kept reset readable }
 {
@@ -18,7 +19,9 @@ fn listed(offset: u32, register: Register, kept: u32, reset: u32, readable: bool
     }
 }
 
-// The row of an offset; `Missing` where no register has it. A `match` is not laid on the stack at each call, as an array of rows is.
+// The row of an offset. No Option: where no register has it, `card::specs::Registers.row_at` has a row too, that of `Missing`.
+// A `match` is not laid on the stack at each call, as an array of rows is.
+#[tactic(auto, unfolding(card::specs::Registers::row_at, card::specs::Registers::row_in, card::specs::Registers::table))]
 pub fn find(offset: u32) -> Row
     ensures { result ≡ row_at offset }
 {

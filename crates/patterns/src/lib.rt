@@ -1,7 +1,7 @@
 // The words that a span takes of registers, eight pixels each, and its masks: made once, before any pixel is drawn. And the byte of a single pixel.
 #![tactic(auto)]
 
-ghost use Rattle.std.specs.Prelude.{◌≡◌, cond, [], ◌∷◌, ℕ, ◌+◌, ◌/◌, ◌%◌, get_or};
+ghost use Rattle.std.specs.Prelude.{◌≡◌, cond, [], ◌∷◌, ℕ, ◌+◌, ◌/◌, ◌%◌, ◌<◌, get_or};
 ghost use Rattle.raster.specs.Pixel.{bit};
 ghost use Rattle.span.specs.Fragments.{byte};
 ghost use Rattle.span.specs.Strokes.{pattern_byte};
@@ -18,14 +18,14 @@ fn solid(x: u32, at: usize) -> u64
 pub fn byte_at(x: u32, address: usize) -> u8
     ensures { result ≡ byte x (address % 4) }
 {
-    ((x >> (8 * (address % 4))) % 0x100) as u8
+    x.to_le_bytes()[address % 4]
 }
 
 // The plane mask outside the held planes, all four bytes at once.
 pub fn planes(plane: u32, held: u32) -> u32
     ensures { (p : ℕ) → byte result (p % 4) ≡ effective_by plane held p }
 {
-    plane ^ (plane & held % 256 * 0x0101_0101)
+    plane & !(held % 256 * 0x0101_0101)
 }
 
 // The effective masks of eight pixels from address `first` on.
@@ -35,15 +35,18 @@ pub fn masks(plane: u32, held: u32, first: usize) -> u64
     solid(planes(plane, held), first)
 }
 
+// Eight pixels: each takes its byte of x where its bit is set, else of y.
+fn eight(bits: u8, x: u64, y: u64) -> u64
+    ensures { (k : ℕ) → k < 8 → byte result k ≡ cond (bit bits k) (byte x k) (byte y k) }
+{
+    words::select(words::widen(bits), x, y)
+}
+
 // Pixel j takes its byte of x where bit j of `pick` is set, else of y.
 fn choose(pick: u32, x: u64, y: u64) -> [u64; 4]
     ensures { (j : ℕ) → pattern_byte result j ≡ cond (bit pick (j % 32)) (byte x (j % 8)) (byte y (j % 8)) }
 {
-    let a = words::select(words::widen((pick % 0x100) as u8), x, y);
-    let b = words::select(words::widen((pick / 0x100 % 0x100) as u8), x, y);
-    let c = words::select(words::widen((pick / 0x1_0000 % 0x100) as u8), x, y);
-    let d = words::select(words::widen((pick / 0x100_0000 % 0x100) as u8), x, y);
-    [a, b, c, d]
+    pick.to_le_bytes().map(|bits| eight(bits, x, y))
 }
 
 // Pixel j takes byte (its address mod 4) of x where bit j mod 32 is set, else of y.

@@ -13,14 +13,11 @@ pub struct Reduced {
     pub xor: u64,
 }
 
-// All 64 bits.
-pub const ONES: u64 = 0xFFFF_FFFF_FFFF_FFFF;
-
 // All ones where n is odd, else 0.
 fn spread(n: u8) -> u64
     ensures { result ≡ number 64 (λ k. bit n 0) }
 {
-    (n % 2) as u64 * ONES
+    (n % 2) as u64 * u64::MAX
 }
 
 // The two words that settle every old word: what an old word of zeros becomes, and the bits in which one of ones comes out otherwise.
@@ -31,14 +28,14 @@ pub fn reduce(op: u8, mask: u64, source: u64) -> Reduced
     let of_zeros = words::select(source, spread(op / 2), spread(op / 8));
     let of_ones = words::select(source, spread(op), spread(op / 4));
     let zeros = words::select(mask, of_zeros, 0);
-    let ones = words::select(mask, of_ones, ONES);
+    let ones = words::select(mask, of_ones, u64::MAX);
     Reduced {
         and: zeros ^ ones,
         xor: zeros,
     }
 }
 
-// One pixel made, and whether it is another than the old one.
+// One pixel made, and whether it is another than the old one. No Option: a pixel that comes out the same is stored too, with no branch.
 #[derive(Clone, Copy)]
 pub struct Made {
     pub byte: u8,

@@ -6,7 +6,7 @@ use card::Register;
 // The last of the sixteen raster operations.
 pub const LAST_OPERATION: u32 = 15;
 
-// The operation that takes the source.
+// The operation that takes the source. An operation is its number, of four bits, by which pixels are made (`span::Strokes`).
 pub const COPY: u8 = 3;
 
 // What the pixels of a span take. `at` is the address of the first, for the bytes that go by address.
@@ -45,7 +45,7 @@ pub enum Effect {
     Unloads,
 }
 
-// The tests of 3, 4, 5, 6, 7 and 9, by what is at fault.
+// The tests of 3, 4, 5, 6, 7 and 9, by what is at fault: bools, since several can be at once, and the first in the order of refusal is told.
 #[derive(Clone, Copy)]
 pub struct Faults {
     pub lanes: bool,

@@ -2,22 +2,21 @@
 use mathlib.Core.Path.{◌≡◌, refl, ap, ap₂, sym, ◌∙◌}
 use mathlib.Core.Bool.{Bool, true, false, cond}
 use mathlib.Core.List.{List, [], ◌∷◌, ◌++◌, append-nil}
-use Prim.Native.Nat.{ℕ, ◌-◌, ◌^◌, ◌≤◌, ◌<◌}
-use native.Mathlib.Nat.{sub-zero}
+use Prim.Native.Nat.{ℕ, ◌-◌, ◌^◌, ◌≤◌}
 use native.Mathlib.Omega.{arith}
 use lib.Dec.{eqb, leb}
+use Rattle.std.proofs.Common.{Some, None}
+use Rattle.std.specs.Bool.{then_some}
 use lib.ListN.{length, take, drop, length-append, length-drop}
 use lib.Seq.{length-take-le, take_at, drop_at}
-use borrow.Author.Tests.{le-leb, lt-leb, leb-true}
-use Rattle.card.specs.declared.Card.{Card}
+use borrow.Author.Tests.{le-leb, leb-true}
 use Rattle.card.specs.Reset.{reset_card}
-use Rattle.format.specs.Bytes.{word_at}
+use Rattle.format.specs.Bytes.{word, word_at}
 use Rattle.format.specs.Traces.{largest, good_header, is_trace, entry_count, check_number, check_number_up_to, check_part, check_part_up_to, check_length, check_length_up_to}
 use Rattle.format.proofs.Inside.{word_inside}
 use Rattle.format.proofs.Tested.{headed, formed, traced}
 use Rattle.trace.specs.Run.{State}
 use Rattle.line.specs.Serial.{new_reader, Standing, standing, state_of, chunk, chunks_up_to, joined, finished}
-use Rattle.line.specs.declared.Reader.{Reader}
 use Rattle.line.proofs.Joining.{two_chunks}
 use Rattle.line.proofs.Units.{header_front, word_front}
 use Rattle.line.proofs.Demands.{held_planes}
@@ -28,32 +27,13 @@ use Rattle.player.specs.Arriving.{length_of, fed, fed_all, before, closed}
 
 -- ---- The length that a header says.
 
-module _ (h : List ℕ) where
-  pub no_length : good_header h ≡ false → 0 ≡ length_of h
-  unfolding length_of
-  no_length e = simp e
-
-  pub said_length : {n : ℕ} → good_header h ≡ true → n ≡ word_at h 8 → n ≡ length_of h
-  unfolding length_of
-  said_length e f = f ∙ word_inside h 8 (omega (arith, (headed h e).header)) ∙ simp e
-
--- ---- A chunk. The one that the code makes leaves the standing f, d, u.
-
-module _ (bs v : List ℕ) (r : Reader) (c : Card) {n : ℕ} {u : List ℕ} {f : Reader} {d : Card} where
-  -- VRAM has too few bytes
-  pub on_none : length v < n → standing f d u ≡ chunk bs (standing r c (take 0 v)) → standing f d (u ++ v) ≡ fed n bs (standing r c v)
-  unfolding fed before
-  on_none h e = ap (λ (t : Standing). standing t.reader t.card (t.picture ++ v)) e ∙ simp (lt-leb _ _ h)
-
-  -- VRAM has so many bytes, and what lies past them stays
-  pub on_front : n ≤ length v → standing f d u ≡ chunk bs (standing r c (take (n - 0) v))
-      → standing f d (u ++ drop (n - 0) v) ≡ fed n bs (standing r c v)
-  unfolding fed before
-  on_front h e =
-      ap₂ (λ (t : Standing) (k : ℕ). standing t.reader t.card (t.picture ++ drop k v))
-      (e ∙ ap (λ (k : ℕ). chunk bs (standing r c (take k v))) (sub-zero n))
-      (sub-zero n)
-      ∙ simp (le-leb _ _ h)
+pub length_said : (h : List ℕ) → then_some (good_header h) (word_at h 8) ≡ length_of h
+unfolding length_of
+length_said h = go (good_header h) refl
+  where
+    go : (x : Bool) → good_header h ≡ x → then_some x (word_at h 8) ≡ cond x (Some (word h 8)) None
+    go true e = ap Some (word_inside h 8 (omega (arith, (headed h e).header)))
+    go false e = refl
 
 -- ---- Two chunks fed, one after the other, are their bytes fed as one. For every reader, every card and every VRAM.
 
@@ -120,9 +100,9 @@ module _ (v : List ℕ) (held : ℕ) (p : List ℕ) (trace : is_trace v ≡ true
   n = check_length v
 
   -- the header's 16 bytes say the length
-  pub length_in_the_header : length_of (take 16 v) ≡ n
+  pub length_in_the_header : length_of (take 16 v) ≡ Some n
   unfolding length_of check_length_up_to
-  length_in_the_header = let t = traced v trace in simp (trace, header_front v t.header ∙ t.good) (word_front v 8 t.header (omega arith))
+  length_in_the_header = let t = traced v trace in simp (trace, header_front v t.header ∙ t.good) (ap Some (word_front v 8 t.header (omega arith)))
 
   abbrev begun : List ℕ → Standing
   begun u = standing new_reader (reset_card held) u

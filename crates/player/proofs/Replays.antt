@@ -1,8 +1,7 @@
 -- A replay, case by case. Assumes nothing.
 use mathlib.Core.Path.{◌≡◌, ap, ap₂, ◌∙◌}
 use mathlib.Core.List.{List, ◌++◌}
-use Prim.Native.Nat.{ℕ, ◌-◌, ◌≤◌, ◌<◌}
-use native.Mathlib.Nat.{sub-zero}
+use Prim.Native.Nat.{ℕ, ◌≤◌, ◌<◌}
 use lib.ListN.{length, take, drop}
 use borrow.Author.Tests.{eq-eqb, ne_eqb, le-leb, lt-leb}
 use Rattle.card.specs.declared.Card.{Card}
@@ -30,17 +29,17 @@ module _ (bytes v : List ℕ) (held : ℕ) where
     -- the trace is run, and what lies past its VRAM stays
     pub plays : (n : ℕ) → n ≡ check_length bytes → check_length bytes ≤ length v → (s : State) → s ≡ whole bytes held v
         → (record { number = s.number; entries = s.applied; pixels = s.pixels; changed = s.changed; length = n } ≡ played bytes held v)
-        × (s.picture ++ drop (n - 0) v ≡ pictured bytes held v)
+        × (s.picture ++ drop n v ≡ pictured bytes held v)
     unfolding played pictured
     plays n f h s g = (
       ap₂ (λ (r : State) (k : ℕ). record { number = r.number; entries = r.applied; pixels = r.pixels; changed = r.changed; length = k }) g f
           ∙ simp (eq-eqb _ _ e, le-leb _ _ h),
-      ap₂ (λ (r : State) (k : ℕ). r.picture ++ drop k v) g (sub-zero n ∙ f) ∙ simp (eq-eqb _ _ e, le-leb _ _ h),
+      ap₂ (λ (r : State) (k : ℕ). r.picture ++ drop k v) g f ∙ simp (eq-eqb _ _ e, le-leb _ _ h),
     )
 
   -- the run that the code makes is the whole run
   pub whole_run : {part : List ℕ} {card : Card} {n : ℕ} → part ≡ check_part bytes → card ≡ reset_card held → n ≡ check_length bytes
-      → run part 4294967295 card (take (n - 0) v) ≡ whole bytes held v
+      → run part 4294967295 card (take n v) ≡ whole bytes held v
   whole_run {n = n} p r k =
-      ap₂ (λ (l : List ℕ) (u : Card). run l 4294967295 u (take (n - 0) v)) p r
-      ∙ ap (λ (m : ℕ). run (check_part bytes) 4294967295 (reset_card held) (take m v)) (sub-zero n ∙ k)
+      ap₂ (λ (l : List ℕ) (u : Card). run l 4294967295 u (take n v)) p r
+      ∙ ap (λ (m : ℕ). run (check_part bytes) 4294967295 (reset_card held) (take m v)) k

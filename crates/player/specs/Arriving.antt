@@ -1,14 +1,14 @@
 -- A trace that arrives in chunks, replayed on the front of a VRAM.
-use Rattle.std.specs.Prelude.{cond, List, [], ◌∷◌, ◌++◌, ℕ, leb, length, take, drop}
+use Rattle.std.specs.Prelude.{cond, List, [], ◌∷◌, ◌++◌, ℕ, leb, length, take, drop, Option, Some, None}
 use Rattle.format.specs.Bytes.{word}
 use Rattle.format.specs.Traces.{good_header}
 use Rattle.line.specs.Serial.{Standing, standing, chunk, ended}
 use Rattle.line.specs.declared.Reader.{Reader}
 use Rattle.player.specs.declared.Played.{Played}
 
--- the VRAM length that a header says; 0 where the bytes are none
-unfoldable pub length_of : List ℕ → ℕ
-length_of h = cond (good_header h) (word h 8) 0
+-- the VRAM length that a header says; none where the bytes are none
+unfoldable pub length_of : List ℕ → Option ℕ
+length_of h = cond (good_header h) (Some (word h 8)) None
 
 -- a chunk on the first m bytes of VRAM: every byte past them stays
 unfoldable pub before : ℕ → List ℕ → Standing → Standing

@@ -3,31 +3,33 @@
 #![tactic(auto)]
 
 ghost use Rattle.std.specs.Prelude.{◌≡◌};
+ghost use Rattle.rules.specs.Numbers.{told};
 ghost use Rattle.readback.specs.ReadBack.{back_number, back_part};
 
 use bounds::bad_length;
+use rules::Refusal;
 
-// The number of a read-back of n pixels from address a, out of a VRAM of that length.
-pub fn number(size: usize, a: u32, n: u32) -> u32
-    ensures { result ≡ back_number size a n }
+// A read-back of n pixels from address a, out of a VRAM of that length.
+#[tactic(auto, unfolding(crate::specs::ReadBack::back_number))]
+pub fn number(size: usize, a: u32, n: u32) -> Result<(), Refusal>
+    ensures { told result ≡ back_number size a n }
 {
     if bad_length(size) {
-        return 1;
+        return Err(Refusal::Length);
     }
     if size < a as usize + n as usize {
-        return 8;
+        return Err(Refusal::Outside);
     }
-    0
+    Ok(())
 }
 
-// Read-back: that part of VRAM itself, or an empty part where the number is not 0.
+// Read-back: that part of VRAM itself, or an empty part where it is refused.
+#[tactic(auto, using(crate::proofs::Backwards::back_refused, crate::proofs::Backwards::back_given, crate::proofs::Backwards::back_inside))]
 pub fn part(vram: &[u8], a: u32, n: u32) -> &[u8]
     ensures { result.now ≡ back_part vram.now a n }
 {
-    let first = a as usize;
-    let end = first + n as usize;
-    if number(vram.len(), a, n) != 0 {
-        return &vram[0..0];
+    match number(vram.len(), a, n) {
+        Ok(()) => &vram[a as usize..a as usize + n as usize],
+        Err(_) => &vram[0..0],
     }
-    &vram[first..end]
 }

@@ -1,26 +1,29 @@
 -- Runs of stores, one after the other: adjacent stores are one. So an entry is stored, and a header. Assumes nothing.
+use borrow.Rule.Slice.PartMut.{put_mid}
 use mathlib.Core.Path.{◌≡◌, refl, ap, sym, ◌∙◌}
 use mathlib.Core.List.{List, [], ◌∷◌, ◌++◌}
-use Prim.Native.Nat.{ℕ, suc, ◌+◌, ◌*◌, ◌/◌, ◌%◌}
+use Prim.Native.Nat.{ℕ, suc, ◌+◌, ◌-◌, ◌*◌, ◌≤◌}
 use native.Mathlib.Nat.{div-one}
 use native.Mathlib.Omega.{arith}
-use lib.ListN.{length, set}
-use lib.Seq.{sets}
+use lib.ListN.{length, set, take, drop, length-drop}
+use lib.Seq.{sets, drop-drop, length-take-le}
+use Rattle.std.proofs.lemmas.List.{append_assoc}
+use Rattle.std.proofs.lemmas.List.Edits.{sets-eq}
+use Rattle.std.specs.Int.{w32, to_le_bytes}
 use Rattle.span.specs.Fragments.{byte}
 use Rattle.card.specs.declared.Write.{Write}
 use Rattle.format.specs.Bytes.{bytes}
 use Rattle.format.specs.Traces.{header, entry}
 
--- four stores, as the code makes them
-pub put_four : (v : List ℕ) (a x y z t : ℕ) → set (set (set (set v a x) (a + 1) y) (a + 2) z) (a + 3) t ≡ sets v a (x ∷ y ∷ z ∷ t ∷ [])
-put_four v a x y z t =
-    let e1 : suc a ≡ a + 1 = omega arith in
-    let e2 : suc (suc a) ≡ a + 2 = omega arith in
-    let e3 : suc (suc (suc a)) ≡ a + 3 = omega arith in
-    rw (e3, e2, e1)
+-- a part of so many bytes, written
+pub part-sets : (n a : ℕ) (v bytes : List ℕ) → length bytes ≡ length (take (a + n - a) (drop a v)) → a + n ≤ length v → put_mid a (a + n - a) v bytes ≡ sets v a bytes
+part-sets n a v bytes l h =
+    let k : a + n - a ≡ n = omega arith in
+    let e : a + length bytes ≡ a + n = omega (arith, l, length-take-le (a + n - a) (drop a v) (omega (arith, length-drop a v, h))) in
+    ap (λ (m : ℕ). put_mid a m v bytes) k ∙ sym (sets-eq bytes v a (omega (arith, e, h)) ∙ rw (e, ← drop-drop n a v, append_assoc))
 
--- the bytes of a number, as the code makes them
-pub made_bytes : (x : ℕ) → x % 256 ∷ x / 256 % 256 ∷ x / 65536 % 256 ∷ x / 16777216 % 256 ∷ [] ≡ bytes x
+-- the bytes of a number, as std says them
+pub made_bytes : (x : ℕ) → to_le_bytes w32 x ≡ bytes x
 unfolding bytes byte
 made_bytes x = rw div-one
 

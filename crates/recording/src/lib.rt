@@ -7,10 +7,3 @@ mod words;
 mod writing;
 
 pub use writing::{append, extend, start};
-
-// What starting, appending and extending answer: the number, and the trace's new length.
-#[derive(Clone, Copy)]
-pub struct Length {
-    pub number: u32,
-    pub length: usize,
-}

@@ -8,6 +8,7 @@ use card::Write;
 use format::{OFFSET, STEP};
 
 // The header of so many entries for a VRAM of `vram` bytes, stored at the front.
+#[tactic(auto, using(crate::proofs::Stores::put_header))]
 pub(crate) fn put_header(b: &mut [u8], count: u32, vram: u32)
     requires { (header_size ≤ length b.old) × (header_size + entry_size * count < 2 ^ 32) }
     ensures { b.new ≡ sets b.old 0 (header count vram) }
@@ -19,11 +20,12 @@ pub(crate) fn put_header(b: &mut [u8], count: u32, vram: u32)
 }
 
 // The entry of a write stored from `at` on.
+#[tactic(auto, using(crate::proofs::Stores::put_entry))]
 pub(crate) fn put_entry(b: &mut [u8], at: usize, w: Write)
     requires { at + entry_size ≤ length b.old }
     ensures { b.new ≡ sets b.old at (entry w) }
 {
-    put_bytes(b, at, w.space, w.lanes, 0, 0);
+    put_bytes(b, at, [w.space, w.lanes, 0, 0]);
     put_word(b, at + 4, w.address);
     put_word(b, at + 8, w.data);
 }

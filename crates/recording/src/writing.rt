@@ -1,88 +1,76 @@
 // Starting a trace in a buffer, appending to it, and extending it.
-ghost use Rattle.std.specs.Prelude.{◌≡◌, true, ◌+◌, ◌≤◌, ◌<◌, length};
+ghost use Rattle.std.specs.Prelude.{◌≡◌, true, ◌+◌, ◌≤◌, ◌<◌, length, OnErr};
+ghost use Rattle.rules.specs.Numbers.{told};
 ghost use Rattle.format.specs.Bytes.{word};
-ghost use Rattle.format.specs.Recording.{start_number, start_length, started, one_more_number, one_more_length, holds_trace, append_number, append_length, appended, holds_header, extend_number, extend_length, grown, one_more_buffer, extended};
+ghost use Rattle.format.specs.Recording.{length_told, start_number, start_length, started, one_more_number, one_more_length, holds_trace, append_number, append_length, appended, holds_header, extend_number, extend_length, grown, one_more_buffer, extended};
 ghost use Rattle.format.specs.Traces.{header_size, entry_size, largest};
 
-use crate::Length;
 use crate::storing::{put_entry, put_header};
 use bounds::{bad_length, bad_space};
 use card::Write;
 use checking::{fits_header, is_trace};
 use entries::word_at;
 use format::{ENTRY, HEADER, LARGEST};
+use rules::Refusal;
 
-// The number of a start in a buffer of `size` bytes.
-fn start_number(size: usize, vram: u32) -> u32
-    ensures { result ≡ start_number size vram }
+// Whether a trace can start in a buffer of `size` bytes.
+#[tactic(auto, unfolding(format::specs::Recording::start_number))]
+fn can_start(size: usize, vram: u32) -> Result<(), Refusal>
+    ensures { told result ≡ start_number size vram }
 {
     if bad_length(vram as usize) {
-        return 1;
+        return Err(Refusal::Length);
     }
     if size < HEADER {
-        return 11;
+        return Err(Refusal::NoRoom);
     }
-    0
+    Ok(())
 }
 
-// A trace of no writes for a VRAM of `vram` bytes, in the buffer's first bytes.
-pub fn start(buffer: &mut [u8], vram: u32) -> Length
-    ensures { (result.number ≡ start_number (length buffer.old) vram)
-        × (result.length ≡ start_length (length buffer.old) vram)
-        × (buffer.new ≡ started buffer.old vram) }
+// A trace of no writes for a VRAM of `vram` bytes, in the buffer's first bytes: the length of it.
+#[tactic(auto, using(format::proofs::Growing::stored_header), unfolding(format::specs::Recording::start_number, format::specs::Recording::start_length, format::specs::Recording::started))]
+pub fn start(buffer: &mut [u8], vram: u32) -> Result<usize, Refusal>
+    ensures number { told result ≡ start_number (length buffer.old) vram }
+    ensures lengths { length_told result ≡ start_length (length buffer.old) vram }
+    ensures leaves { buffer.new ≡ started buffer.old vram }
+    ensures refused { OnErr result (buffer.new ≡ buffer.old) }
 {
-    let number = start_number(buffer.len(), vram);
-    if number != 0 {
-        return Length { number, length: 0 };
-    }
+    can_start(buffer.len(), vram)?;
     put_header(buffer, 0, vram);
-    Length {
-        number,
-        length: HEADER,
-    }
+    Ok(HEADER)
 }
 
 // ---- One write more.
 
-// The first `used` bytes are there, and a trace.
+// The first `used` bytes are there, and a trace. One function for this test and the next would be longer than both.
+#[tactic(auto, unfolding(format::specs::Recording::holds_trace))]
 fn holds_trace(buffer: &[u8], used: usize) -> bool
     ensures { result ≡ holds_trace buffer.now used }
 {
-    if buffer.len() < used {
-        return false;
-    }
-    is_trace(&buffer[..used])
+    used <= buffer.len() && is_trace(&buffer[..used])
 }
 
 // The first `used` bytes are there, and as many as their header says.
+#[tactic(auto, unfolding(format::specs::Recording::holds_header))]
 fn holds_header(buffer: &[u8], used: usize) -> bool
     ensures { result ≡ holds_header buffer.now used }
 {
-    if buffer.len() < used {
-        return false;
-    }
-    fits_header(&buffer[..used])
+    used <= buffer.len() && fits_header(&buffer[..used])
 }
 
-// The number of one write more, where the first `used` bytes are taken for a trace or not.
-fn one_more_number(taken: bool, buffer: &[u8], used: usize, w: Write) -> u32
-    requires { taken ≡ true → holds_header buffer.now used ≡ true }
-    ensures { result ≡ one_more_number taken buffer.now used w }
+// Whether one write more can follow the first `used` bytes.
+#[tactic(auto, unfolding(format::specs::Recording::one_more_number, format::specs::Bytes::word_at))]
+fn can_grow(buffer: &[u8], used: usize, w: Write) -> Result<(), Refusal>
+    requires { used ≤ length buffer.now }
+    ensures { told result ≡ one_more_number true buffer.now used w }
 {
-    if !taken {
-        return 10;
-    }
     if bad_space(w) {
-        return 2;
+        return Err(Refusal::Space);
     }
-    if buffer.len() - used < ENTRY {
-        return 11;
+    if buffer.len() - used < ENTRY || word_at(buffer, 0) as usize == LARGEST {
+        return Err(Refusal::NoRoom);
     }
-    let count = word_at(buffer, 0) as usize;
-    if count == LARGEST {
-        return 11;
-    }
-    0
+    Ok(())
 }
 
 // The write's entry stored after the first `used` bytes, and counted in the header.
@@ -96,38 +84,44 @@ fn grow(buffer: &mut [u8], used: usize, w: Write)
     put_entry(buffer, used, w);
 }
 
-// One write more, where the first `used` bytes are taken for a trace or not.
-fn one_more(taken: bool, buffer: &mut [u8], used: usize, w: Write) -> Length
-    requires { taken ≡ true → holds_header buffer.old used ≡ true }
-    ensures { (result.number ≡ one_more_number taken buffer.old used w)
-        × (result.length ≡ one_more_length taken buffer.old used w)
-        × (buffer.new ≡ one_more_buffer taken buffer.old used w) }
+// One write more after the first `used` bytes: the new length.
+#[tactic(auto, unfolding(format::specs::Recording::one_more_number, format::specs::Recording::one_more_length, format::specs::Recording::one_more_buffer, format::specs::Recording::holds_header))]
+fn one_more(buffer: &mut [u8], used: usize, w: Write) -> Result<usize, Refusal>
+    requires { holds_header buffer.old used ≡ true }
+    ensures number { told result ≡ one_more_number true buffer.old used w }
+    ensures lengths { length_told result ≡ one_more_length true buffer.old used w }
+    ensures leaves { buffer.new ≡ one_more_buffer true buffer.old used w }
+    ensures refused { OnErr result (buffer.new ≡ buffer.old) }
 {
-    let number = one_more_number(taken, buffer, used, w);
-    if number != 0 {
-        return Length { number, length: 0 };
-    }
+    can_grow(buffer, used, w)?;
     grow(buffer, used, w);
-    Length {
-        number,
-        length: used + ENTRY,
-    }
+    Ok(used + ENTRY)
 }
 
-// One write more in the trace of the buffer's first `used` bytes.
-pub fn append(buffer: &mut [u8], used: usize, w: Write) -> Length
-    ensures { (result.number ≡ append_number buffer.old used w)
-        × (result.length ≡ append_length buffer.old used w)
-        × (buffer.new ≡ appended buffer.old used w) }
+// One write more in the trace of the buffer's first `used` bytes: the new length. The buffer and the length come apart, as C lends them.
+#[tactic(auto, using(format::proofs::Growing::appending), unfolding(format::specs::Recording::one_more_number, format::specs::Recording::one_more_length, format::specs::Recording::appended, format::specs::Recording::holds_trace, format::specs::Recording::holds_header, format::specs::Traces::is_trace_up_to))]
+pub fn append(buffer: &mut [u8], used: usize, w: Write) -> Result<usize, Refusal>
+    ensures number { told result ≡ append_number buffer.old used w }
+    ensures lengths { length_told result ≡ append_length buffer.old used w }
+    ensures leaves { buffer.new ≡ appended buffer.old used w }
+    ensures refused { OnErr result (buffer.new ≡ buffer.old) }
 {
-    one_more(holds_trace(buffer, used), buffer, used, w)
+    if !holds_trace(buffer, used) {
+        return Err(Refusal::Malformed);
+    }
+    one_more(buffer, used, w)
 }
 
 // The same for what is known for a trace: the header alone is judged, so that it takes no longer where the trace is long.
-pub fn extend(buffer: &mut [u8], used: usize, w: Write) -> Length
-    ensures { (result.number ≡ extend_number buffer.old used w)
-        × (result.length ≡ extend_length buffer.old used w)
-        × (buffer.new ≡ extended buffer.old used w) }
+#[tactic(auto, unfolding(format::specs::Recording::one_more_number, format::specs::Recording::one_more_length, format::specs::Recording::one_more_buffer))]
+pub fn extend(buffer: &mut [u8], used: usize, w: Write) -> Result<usize, Refusal>
+    ensures number { told result ≡ extend_number buffer.old used w }
+    ensures lengths { length_told result ≡ extend_length buffer.old used w }
+    ensures leaves { buffer.new ≡ extended buffer.old used w }
+    ensures refused { OnErr result (buffer.new ≡ buffer.old) }
 {
-    one_more(holds_header(buffer, used), buffer, used, w)
+    if !holds_header(buffer, used) {
+        return Err(Refusal::Malformed);
+    }
+    one_more(buffer, used, w)
 }

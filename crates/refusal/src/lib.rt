@@ -1,42 +1,47 @@
-// The number of a write from its plan: one list of tests, and the first of them that holds.
+// Whether a write is refused, from its plan: the first test that holds.
 #![tactic(auto)]
 
 ghost use Rattle.std.specs.Prelude.{◌≡◌};
-ghost use Rattle.plan.specs.Plan.{judged, first_of};
+ghost use Rattle.rules.specs.Numbers.{told};
+ghost use Rattle.plan.specs.Plan.{judged};
 
 use bounds::{bad_length, bad_space, past_end};
 use card::Write;
 use plan::Plan;
+use rules::Refusal;
 
-// The first number whose test holds, or 0.
-fn first_of(numbers: [u32; 9], tests: [bool; 9]) -> u32
-    ensures { result ≡ first_of numbers tests }
+// It sees the length of VRAM, and no byte of it.
+#[tactic(auto, unfolding(plan::specs::Plan::judged_by))]
+pub fn refuse(p: &Plan, w: Write, n: usize) -> Result<(), Refusal>
+    ensures { told result ≡ judged p.now w n }
 {
-    let mut i = 0;
-    while i < 9 {
-        if tests[i] {
-            return numbers[i];
-        }
-        i += 1;
+    let faults = &p.faults;
+    if bad_length(n) {
+        return Err(Refusal::Length);
     }
-    0
-}
-
-// The number of a write from its plan, 0 where it is accepted. It sees the length of VRAM, and no byte of it.
-pub fn refuse(p: Plan, w: Write, n: usize) -> u32
-    ensures { result ≡ judged p w n }
-{
-    let faults = p.faults;
-    let tests = [
-        bad_length(n),
-        bad_space(w),
-        faults.lanes,
-        faults.register,
-        faults.mode,
-        faults.raster,
-        faults.address,
-        past_end(p.first, p.width, n),
-        faults.source,
-    ];
-    first_of([1, 2, 3, 4, 5, 6, 7, 8, 9], tests)
+    if bad_space(w) {
+        return Err(Refusal::Space);
+    }
+    if faults.lanes {
+        return Err(Refusal::Lanes);
+    }
+    if faults.register {
+        return Err(Refusal::Register);
+    }
+    if faults.mode {
+        return Err(Refusal::Mode);
+    }
+    if faults.raster {
+        return Err(Refusal::Operation);
+    }
+    if faults.address {
+        return Err(Refusal::Boundary);
+    }
+    if past_end(p.first, p.width, n) {
+        return Err(Refusal::Outside);
+    }
+    if faults.source {
+        return Err(Refusal::Unloaded);
+    }
+    Ok(())
 }

@@ -3,274 +3,173 @@
 // PICTURE is a file for the picture, a binary PGM of WIDTH columns (512 where it is not given); HELD is the held planes, two hexadecimal digits.
 #![tactic(auto)]
 
-ghost use Rattle.std.specs.Counts.{IsPrefixLen};
-
 mod arriving;
+mod input;
 
+use arguments::argument;
 use bounds::LARGEST_VRAM;
 use format::LONGEST;
 use player::Played;
-use std::env::FillError;
+use std::fmt::Display;
 use std::io::Read;
 use std::rt::{Env, Files, Runtime};
 use std::{fs, io};
-use typed::Number;
 
-// Says on standard error what is wrong; where that cannot be written, nobody is told.
-fn complain(rt: &impl Eprint, what: &str) {
-    let _ = eprintln!(rt; "replay: {what}");
-}
-
-fn line(rt: &impl Print, what: &str, n: u64) -> io::Result<()> {
-    println!(rt; "{what}{n}")
-}
-
-fn answer(rt: &impl Print, p: Played) -> io::Result<()> {
-    line(rt, "number ", p.number as u64)?;
-    line(rt, "entries ", p.entries as u64)?;
-    line(rt, "pixels ", p.pixels as u64)?;
-    line(rt, "vram ", p.length as u64)?;
-    line(rt, "changed ", p.changed as u64)
-}
-
-// Whether there is an argument i.
-fn is_given(rt: &impl Env, i: usize) -> bool {
-    !matches!(rt.arg(i, &mut []), Err(FillError::NotPresent))
-}
-
-// Puts argument i at the start of the buffer, and answers its length: 0 where there is none, or it is longer than the buffer.
-fn argument(rt: &impl Env, i: usize, buffer: &mut [u8]) -> usize
-    ensures { IsPrefixLen result buffer.new }
-{
-    rt.arg(i, buffer).unwrap_or(0)
-}
-
-// Argument i as a number, or `other` where there is none.
-fn decimal_argument(rt: &impl Env, i: usize, other: u32) -> Number {
-    let mut text = [0u8; 16];
-    if !is_given(rt, i) {
-        return Number {
-            ok: true,
-            value: other,
-        };
-    }
-    let n = argument(rt, i, &mut text);
-    typed::decimal(&text[..n])
-}
-
-fn held_argument(rt: &impl Env, i: usize) -> Number {
-    let mut text = [0u8; 16];
-    if !is_given(rt, i) {
-        return Number { ok: true, value: 0 };
-    }
-    let n = argument(rt, i, &mut text);
-    typed::two_hex_digits(&text[..n])
-}
-
-fn picture<R: Env + Eprint + Files>(rt: &R, vram: &[u8], width: usize) {
-    let mut path = [0u8; 4096];
-    let n = argument(rt, 2, &mut path);
-    show::picture(rt, &path[..n], vram, width);
-}
-
-fn divides(rt: &impl Eprint, width: usize, n: usize) -> bool {
-    if width == 0 {
-        complain(rt, "WIDTH is not 0");
-        return false;
-    }
-    if n % width != 0 {
-        complain(rt, "WIDTH does not divide the length of VRAM");
-        return false;
-    }
-    true
-}
-
-// The picture, in the file that the second argument names. After a refused entry, or where the trace broke off as it arrived, it is the picture
-// so far.
-fn save<R: Env + Eprint + Files>(rt: &R, vram: &[u8], n: usize, width: usize) {
-    if !is_given(rt, 2) || n == 0 {
-        return;
-    }
-    if vram.len() < n {
-        return;
-    }
-    if divides(rt, width, n) {
-        picture(rt, &vram[0..n], width);
-    }
-}
-
-// Says how it went, and leaves the picture.
-fn tell<R: Env + Eprint + Files + Print>(
-    rt: &R,
-    p: Played,
-    width: usize,
-    vram: &[u8],
-) -> io::Result<()> {
-    answer(rt, p)?;
-    save(rt, vram, p.length, width);
-    Ok(())
-}
-
-// Reads until the bytes are full, the file ends or a read fails, and answers how many came.
-fn read_full<F: Read>(file: &mut F, bytes: &mut [u8]) -> usize
-    ensures { IsPrefixLen result bytes.new }
-{
-    let mut came: usize = 0;
-    while came < bytes.len() {
-        let n = file.read(&mut bytes[came..]).unwrap_or(0);
-        if n == 0 {
-            break;
-        }
-        came += n;
-    }
-    came
-}
-
-// Whether reading a file came to its end or to a byte more, where one more read does not fail. A directory cannot be read at all.
-fn is_read<F: Read>(rt: &impl Eprint, file: &mut F) -> bool {
-    let mut more = [0u8; 1];
-    if let Err(error) = file.read(&mut more) {
-        let _ = eprintln!(rt; "replay: the trace: {error}");
-        return false;
-    }
-    true
-}
-
-// The trace in the file, whole.
-fn run_file<R: Runtime, F: Read>(
-    rt: &R,
-    file: &mut F,
-    width: usize,
-    held: u8,
-    bytes: &mut [u8],
-    vram: &mut [u8],
-) -> io::Result<()> {
-    let n = read_full(file, bytes);
-    if is_read(rt, file) {
-        tell(rt, player::play(&bytes[..n], held, vram), width, vram)?;
-    }
-    Ok(())
-}
+const USAGE: &str = "usage: replay TRACE [PICTURE [WIDTH [HELD]]], where TRACE may be -";
 
 // A byte more than the longest trace has: so many bytes are no trace, as a longer file is none.
 const ROOM: usize = LONGEST + 1;
 
-// An array is lent as a slice by a function that has it from its owner.
-fn run_read<R: Runtime, F: Read>(
-    rt: &R,
-    file: &mut F,
+// What the arguments ask for.
+#[derive(Clone, Copy)]
+struct Options<'a> {
+    trace: &'a [u8],
+    picture: Option<&'a [u8]>,
     width: usize,
     held: u8,
-    bytes: &mut [u8; ROOM],
-    vram: &mut [u8],
-) -> io::Result<()> {
-    run_file(rt, file, width, held, bytes, vram)
 }
 
-fn run_whole<R: Runtime, F: Read>(
-    rt: &R,
-    file: &mut F,
-    width: usize,
-    held: u8,
-    vram: &mut [u8],
-) -> io::Result<()> {
-    let mut bytes = [0u8; ROOM];
-    run_read(rt, file, width, held, &mut bytes, vram)
-}
-
-// The trace on standard input, as it arrives.
-fn run_arriving<R: Runtime, I: Read>(
-    rt: &R,
-    input: &mut I,
-    width: usize,
-    held: u8,
-    vram: &mut [u8],
-) -> io::Result<()> {
-    tell(rt, arriving::run(rt, input, held, vram), width, vram)
-}
-
-fn run<R: Runtime, F: Read>(
-    rt: &R,
-    arrives: bool,
-    file: &mut F,
-    width: usize,
-    held: u8,
-    vram: &mut [u8; LARGEST_VRAM],
-) -> io::Result<()> {
-    if arrives {
-        run_arriving(rt, file, width, held, vram)
-    } else {
-        run_whole(rt, file, width, held, vram)
+impl<'a> Options<'a> {
+    // The arguments, with the two names in the buffers, or what is wrong with them.
+    fn read(
+        rt: &impl Env,
+        trace: &'a mut [u8],
+        picture: &'a mut [u8],
+    ) -> Result<Options<'a>, &'static str> {
+        let trace = argument(rt, 1, trace).ok_or(USAGE)?;
+        if argument(rt, 5, &mut []).is_some() {
+            return Err(USAGE);
+        }
+        let width = argument(rt, 3, &mut [0; 16])
+            .map_or(Some(512), typed::decimal)
+            .ok_or("WIDTH is a decimal number")?;
+        let held = argument(rt, 4, &mut [0; 16])
+            .map_or(Some(0), typed::two_hex_digits)
+            .ok_or("HELD is two hexadecimal digits")?;
+        Ok(Options {
+            trace,
+            picture: argument(rt, 2, picture),
+            width: width as usize,
+            held,
+        })
     }
-}
 
-fn run_zeroed<R: Runtime, F: Read>(
-    rt: &R,
-    arrives: bool,
-    file: &mut F,
-    width: usize,
-    held: u8,
-) -> io::Result<()> {
-    let mut vram = [0u8; LARGEST_VRAM];
-    run(rt, arrives, file, width, held, &mut vram)
-}
-
-fn is_dash(name: &[u8]) -> bool {
-    if name.len() != 1 {
-        return false;
+    // The columns of a picture of so many pixels, or what is wrong with WIDTH.
+    fn columns(&self, pixels: usize) -> Result<usize, &'static str> {
+        if self.width == 0 {
+            return Err("WIDTH is not 0");
+        }
+        if pixels % self.width != 0 {
+            return Err("WIDTH does not divide the length of VRAM");
+        }
+        Ok(self.width)
     }
-    name[0] == b'-'
-}
 
-// The trace in the file of that name.
-fn replay_file<R: Runtime>(rt: &R, name: &str, width: usize, held: u8) -> io::Result<()> {
-    match fs::open(rt, name) {
-        Ok(mut file) => run_zeroed(rt, false, &mut file, width, held),
-        Err(error) => {
-            let _ = eprintln!(rt; "{name}: {error}");
-            Ok(())
+    // The picture, in the file that PICTURE names. After a refused entry, or where the trace broke off as it arrived, it is the picture so far.
+    fn save<R: Eprint + Files>(&self, rt: &R, pixels: &[u8]) {
+        let Some(path) = self.picture else {
+            return;
+        };
+        if pixels.is_empty() {
+            return;
+        }
+        match self.columns(pixels.len()) {
+            Ok(width) => {
+                let _ = show::picture(rt, path, pixels, width);
+            }
+            Err(wrong) => complain(rt, wrong),
+        }
+    }
+
+    // Says how it went, and leaves the picture.
+    fn tell<R: Eprint + Files + Print>(
+        &self,
+        rt: &R,
+        played: Played,
+        vram: &[u8],
+    ) -> io::Result<()> {
+        answer(rt, played)?;
+        if let Some(pixels) = vram.get(..played.length) {
+            self.save(rt, pixels);
+        }
+        Ok(())
+    }
+
+    // The trace in the file, whole. Past its end or the room, one more read must not fail: a directory cannot be read at all.
+    fn run_whole<R: Runtime, F: Read>(
+        &self,
+        rt: &R,
+        file: &mut F,
+        bytes: &mut [u8; ROOM],
+        vram: &mut [u8; LARGEST_VRAM],
+    ) -> io::Result<()> {
+        let bytes = input::full(file, bytes, |_| ());
+        if let Err(error) = file.read(&mut [0]) {
+            complain(rt, format_args!("the trace: {error}"));
+            return Ok(());
+        }
+        self.tell(rt, player::play(bytes, self.held, vram), vram)
+    }
+
+    // The trace in the file of that name.
+    fn run_file<R: Runtime>(
+        &self,
+        rt: &R,
+        name: &str,
+        vram: &mut [u8; LARGEST_VRAM],
+    ) -> io::Result<()> {
+        match fs::open(rt, name) {
+            Ok(mut file) => self.run_whole(rt, &mut file, &mut [0; ROOM], vram),
+            Err(error) => {
+                let _ = eprintln!(rt; "{name}: {error}");
+                Ok(())
+            }
+        }
+    }
+
+    // The trace on standard input, as it arrives.
+    fn run_arriving<R: Runtime>(&self, rt: &R, vram: &mut [u8; LARGEST_VRAM]) -> io::Result<()> {
+        let played = arriving::run(rt, &mut rt.reader(), self.held, vram);
+        self.tell(rt, played, vram)
+    }
+
+    // The trace that the first argument names; `-` is standard input. A name that is no text names no file that std can open.
+    // An array as long as VRAM, or as the room, is lent as a slice by a function that has it from its owner: where the owner lends it, no proof is found.
+    fn run<R: Runtime>(&self, rt: &R) -> io::Result<()> {
+        let mut vram = [0u8; LARGEST_VRAM];
+        match str::from_utf8(self.trace) {
+            Ok("-") => self.run_arriving(rt, &mut vram),
+            Ok(name) => self.run_file(rt, name, &mut vram),
+            Err(_) => {
+                complain(rt, "TRACE is a name in UTF-8");
+                Ok(())
+            }
         }
     }
 }
 
-// Opens the trace that the first argument names, and runs it; `-` is standard input. A name that is no text names no file that std can open.
-fn replay<R: Runtime>(rt: &R, width: usize, held: u8) -> io::Result<()> {
-    let mut path = [0u8; 4096];
-    let n = argument(rt, 1, &mut path);
-    let name = &path[..n];
-    if is_dash(name) {
-        return run_zeroed(rt, true, &mut rt.reader(), width, held);
-    }
-    match str::from_utf8(name) {
-        Ok(name) => replay_file(rt, name, width, held),
-        Err(_) => {
-            complain(rt, "TRACE is a name in UTF-8");
-            Ok(())
-        }
-    }
+// Says on standard error what is wrong; where that cannot be written, nobody is told.
+fn complain(rt: &impl Eprint, what: impl Display + Drop) {
+    let _ = eprintln!(rt; "replay: {what}");
 }
 
-fn with_arguments<R: Runtime>(rt: &R) -> io::Result<()> {
-    let width = decimal_argument(rt, 3, 512);
-    if !width.ok {
-        complain(rt, "WIDTH is a decimal number");
-        return Ok(());
-    }
-    let held = held_argument(rt, 4);
-    if !held.ok {
-        complain(rt, "HELD is two hexadecimal digits");
-        return Ok(());
-    }
-    replay(rt, width.value as usize, (held.value % 256) as u8)
+// These lines are this program's alone, so `Played` has no Display.
+fn answer(rt: &impl Print, p: Played) -> io::Result<()> {
+    println!(rt; "number {}", p.number)?;
+    println!(rt; "entries {}", p.entries)?;
+    println!(rt; "pixels {}", p.pixels)?;
+    println!(rt; "vram {}", p.length)?;
+    println!(rt; "changed {}", p.changed)
 }
 
 fn main(rt: HostRuntime) -> io::Result<()> {
-    if !is_given(&rt, 1) || is_given(&rt, 5) {
-        complain(
-            &rt,
-            "usage: replay TRACE [PICTURE [WIDTH [HELD]]], where TRACE may be -",
-        );
-        return Ok(());
+    let mut trace = [0u8; 4096];
+    let mut picture = [0u8; 4096];
+    match Options::read(&rt, &mut trace, &mut picture) {
+        Ok(options) => options.run(&rt),
+        Err(wrong) => {
+            complain(&rt, wrong);
+            Ok(())
+        }
     }
-    with_arguments(&rt)
 }

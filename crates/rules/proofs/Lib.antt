@@ -3,3 +3,4 @@ pub mod Samples
 pub mod LineSamples
 pub mod Tests
 pub mod Outcome
+pub mod Numbers

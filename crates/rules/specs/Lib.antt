@@ -4,3 +4,4 @@ pub mod Lines
 pub mod Refusal
 pub mod Writes
 pub mod Sequences
+pub mod Numbers

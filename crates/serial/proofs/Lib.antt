@@ -1,2 +1,3 @@
--- What the engine's answer to an entry means for the reader.
+-- What the engine's answer to an entry means for the reader, and a turn of the loop over the bytes.
 pub mod Drawn
+pub mod Reading

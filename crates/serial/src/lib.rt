@@ -1,170 +1,104 @@
 // Traces that arrive over a serial line, read chunk by chunk: `new`, `chunk` and `end`. What each function means stands in the crate `line`.
+// Inside, a refusal is an Err: `chunk` alone reads and writes the number of the reader, whose form C knows. Reader, card and VRAM stay three parameters, as
+// they are lent to `chunk`: a struct of three loans would be made and taken apart in `chunk` alone.
 #![tactic(auto)]
 
 ghost use Rattle.std.specs.Prelude.{◌≡◌, true, false, length};
 ghost use Rattle.card.specs.Registers.{is_set};
-ghost use Rattle.format.specs.Traces.{header_size, write_at};
+ghost use Rattle.format.specs.Traces.{header_size};
 ghost use Rattle.line.specs.Ahead.{whole_at};
-ghost use Rattle.line.specs.Serial.{standing, complete as is_complete, sound as is_sound, draws, byte as byte_of, reads, chunk as chunk_of};
+ghost use Rattle.line.specs.Serial.{standing, complete as is_complete, sound as is_sound, draws, byte as byte_of, chunk as chunk_of};
+ghost use Rattle.serial.specs.Steps.{before, after};
 
 use bounds::bad_length;
 use card::{CLEAR, Card, Write};
 use entries::entry_at;
 use format::ENTRY;
-use line::{Fed, Reader};
+use line::Reader;
 use readers::{awaited, bad_pad, complete, opening, sound};
 pub use readers::{end, new};
+use rules::Refusal;
 
-// The next entry lies whole in the chunk, with zero pad bytes.
-fn whole_at(r: Reader, bytes: &[u8], at: usize) -> bool
-    ensures { result ≡ whole_at r bytes.now at }
+// The bytes begin with a whole entry, with zero pad bytes, and it is the next one.
+#[tactic(auto, unfolding(line::specs::Ahead::whole_at, line::specs::Arrival::entry_there))]
+fn whole_ahead(r: &Reader, bytes: &[u8]) -> bool
+    ensures whole { result ≡ whole_at r.now bytes.now 0 }
+    // that an array has its length is told only where its struct is read
+    ensures room { length r.now.waiting ≡ header_size }
 {
-    if r.opened == CLEAR {
-        return false;
-    }
-    if r.filled != 0 {
-        return false;
-    }
-    if r.applied == r.announced {
-        return false;
-    }
-    let n = bytes.len();
-    if n < ENTRY {
-        return false;
-    }
-    if n - ENTRY < at {
-        return false;
-    }
-    if bytes[at + 2] != 0 {
-        return false;
-    }
-    bytes[at + 3] == 0
+    r.opened != CLEAR
+        && r.filled == 0
+        && r.applied != r.announced
+        && ENTRY <= bytes.len()
+        && bytes[2] == 0
+        && bytes[3] == 0
 }
 
-// An array has its length, which the toolchain tells of a parameter alone.
-fn sized(waiting: [u8; 16])
-    ensures { length waiting ≡ header_size }
-{}
-
-// The write of an entry that is whole.
-fn entry_of(came: [u8; 16]) -> Write
-    ensures { result ≡ write_at came 0 }
+// One entry, drawn as the next one of a trace. Reader and card are changed in place.
+fn draw(r: &mut Reader, w: Write, card: &mut Card, vram: &mut [u8]) -> Result<(), Refusal>
+    requires { (is_sound r.old ≡ true) × (is_set r.old.opened ≡ true) × (is_complete r.old ≡ false) }
+    ensures { after result r.new card.new vram.new ≡ draws w (before r.old card.old vram.old) }
 {
-    entry_at(&came, 0)
-}
-
-// One entry, drawn as the next one of a trace.
-fn draw(r: Reader, w: Write, card: Card, vram: &mut [u8]) -> Fed
-    requires { (r.number ≡ 0) × (is_sound r ≡ true) × (is_set r.opened ≡ true) × (is_complete r ≡ false) }
-    ensures { standing result.reader result.card vram.new ≡ draws w (standing r card vram.old) }
-{
-    let waiting = [0u8; 16];
-    let answer = engine::write(card, w, vram);
-    let number = answer.number;
-    if number != 0 {
-        let reader = Reader {
-            number,
-            opened: r.opened,
-            announced: r.announced,
-            applied: r.applied,
-            pixels: r.pixels,
-            changed: r.changed,
-            filled: 0,
-            waiting,
-        };
-        return Fed { reader, card };
-    }
-    let reader = Reader {
-        number: 0,
-        opened: r.opened,
-        announced: r.announced,
-        applied: r.applied + 1,
-        pixels: r.pixels + answer.tally.enabled,
-        changed: r.changed + answer.tally.changed,
-        filled: 0,
-        waiting,
-    };
-    let next = answer.card;
-    Fed { reader, card: next }
+    r.filled = 0;
+    r.waiting = [0; 16];
+    let tally = engine::write_to(card, w, vram)?;
+    r.applied += 1;
+    r.pixels += tally.enabled;
+    r.changed += tally.changed;
+    Ok(())
 }
 
 // One byte.
-fn byte(r: Reader, b: u8, card: Card, vram: &mut [u8]) -> Fed
-    requires { (r.number ≡ 0) × (is_sound r ≡ true) }
-    ensures { standing result.reader result.card vram.new ≡ byte_of (standing r card vram.old) b }
+fn byte(r: &mut Reader, b: u8, card: &mut Card, vram: &mut [u8]) -> Result<(), Refusal>
+    requires { is_sound r.old ≡ true }
+    ensures { after result r.new card.new vram.new ≡ byte_of (before r.old card.old vram.old) b }
 {
-    let mut next = r;
-    if complete(r.opened, r.applied, r.announced) {
-        next.number = 10;
-        return Fed { reader: next, card };
+    if complete(r) || bad_pad(r, b) {
+        return Err(Refusal::Malformed);
     }
-    if bad_pad(r.opened, r.filled, b) {
-        next.number = 10;
-        return Fed { reader: next, card };
-    }
-    let at = r.filled as usize;
+    // beside the reader, since one that refuses its header keeps the bytes before the last
     let mut came = r.waiting;
-    came[at] = b;
-    if r.filled + 1 < awaited(r.opened) {
-        next.filled = r.filled + 1;
-        next.waiting = came;
-        return Fed { reader: next, card };
+    came[r.filled as usize] = b;
+    if r.filled + 1 < awaited(r) {
+        r.filled += 1;
+        r.waiting = came;
+        return Ok(());
     }
     if r.opened == CLEAR {
-        let reader = opening(r, came);
-        return Fed { reader, card };
+        return opening(r, &came);
     }
-    draw(r, entry_of(came), card, vram)
+    draw(r, entry_at(&came, 0), card, vram)
 }
 
-// The bytes one after the other, whole entries at once, until a number comes.
-fn read(r: Reader, bytes: &[u8], card: Card, vram: &mut [u8]) -> Fed
-    requires { (r.number ≡ 0) × (is_sound r ≡ true) }
-    ensures { standing result.reader result.card vram.new ≡ reads bytes.now (standing r card vram.old) }
+// A chunk of a reader that no number stops: the bytes one after the other, whole entries at once.
+fn read(r: &mut Reader, bytes: &[u8], card: &mut Card, vram: &mut [u8]) -> Result<(), Refusal>
+    ensures { after result r.new card.new vram.new ≡ chunk_of bytes.now (before r.old card.old vram.old) }
 {
-    let waiting = r.waiting;
-    sized(waiting);
-    let n = bytes.len();
-    let mut reader = r;
-    let mut current = card;
-    let mut at: usize = 0;
-    while at < n {
-        if reader.number != 0 {
-            break;
-        }
-        if whole_at(reader, bytes, at) {
-            let fed = draw(reader, entry_at(bytes, at), current, vram);
-            reader = fed.reader;
-            current = fed.card;
-            at += ENTRY;
+    if !sound(r) {
+        return Err(Refusal::Malformed);
+    }
+    if bad_length(vram.len()) {
+        return Err(Refusal::Length);
+    }
+    let mut rest = bytes;
+    while let [b, others @ ..] = rest {
+        if whole_ahead(r, rest) {
+            draw(r, entry_at(rest, 0), card, vram)?;
+            rest = &rest[ENTRY..];
         } else {
-            let fed = byte(reader, bytes[at], current, vram);
-            reader = fed.reader;
-            current = fed.card;
-            at += 1;
+            byte(r, *b, card, vram)?;
+            rest = others;
         }
     }
-    Fed {
-        reader,
-        card: current,
-    }
+    Ok(())
 }
 
 // One chunk, with the card and VRAM as the last one left them. `reader.number` is the answer.
-pub fn chunk(reader: Reader, card: Card, bytes: &[u8], vram: &mut [u8]) -> Fed
-    ensures { standing result.reader result.card vram.new ≡ chunk_of bytes.now (standing reader card vram.old) }
+pub fn chunk(reader: &mut Reader, card: &mut Card, bytes: &[u8], vram: &mut [u8])
+    ensures { standing reader.new card.new vram.new ≡ chunk_of bytes.now (standing reader.old card.old vram.old) }
 {
-    let mut next = reader;
     if reader.number != 0 {
-        return Fed { reader, card };
+        return;
     }
-    if !sound(reader) {
-        next.number = 10;
-        return Fed { reader: next, card };
-    }
-    if bad_length(vram.len()) {
-        next.number = 1;
-        return Fed { reader: next, card };
-    }
-    read(reader, bytes, card, vram)
+    reader.number = read(reader, bytes, card, vram).err().map_or(0, u32::from);
 }

@@ -1,11 +1,14 @@
 -- The bytes of a number: what is done to a word bit by bit is done to each of its bytes. Over any number of bytes. `byte_past` assumes a number of so many bytes.
 use mathlib.Core.Path.{◌≡◌, refl, ap, sym, ◌∙◌}
 use mathlib.Core.Bool.{Bool}
+use mathlib.Core.List.{List}
 use Prim.Native.Nat.{ℕ, zero, suc, ◌+◌, ◌-◌, ◌*◌, ◌/◌, ◌%◌, ◌^◌, ◌<◌}
 use native.Mathlib.Nat.{div-one, pow-succ', zero-div, div-eq_of_lt, mul-mod_left}
 use native.Mathlib.Omega.{arith}
 use lib.Bits.{bit_and, bit_or, bit_xor, and_shr, and_mod, or_shr, or_mod, xor_shr, xor_mod}
+use lib.ListN.{get_or}
 use lib.Pow.{pow-add, shr-shr, shl-shr}
+use Rattle.std.specs.Int.{w32, to_le_bytes}
 use Rattle.raster.specs.Pixel.{bit, number, made}
 use Rattle.raster.proofs.Bits.{bit_low, bit_high, bit-number, number_below, number_same, same_bits, bit-ones}
 use Rattle.span.specs.Fragments.{byte}
@@ -17,6 +20,15 @@ byte-zero n = simp div-one
 pub byte_below : (n k : ℕ) → byte n k < 256
 unfolding byte
 byte_below n k = omega arith
+
+-- byte k of four, as the code has them
+pub byte_of : (n k : ℕ) {bytes : List ℕ} → bytes ≡ to_le_bytes w32 n → k < 4 → get_or bytes k 0 ≡ byte n k
+unfolding byte
+byte_of n zero e h = ap (λ (l : List ℕ). get_or l 0 0) e ∙ sym (byte-zero n)
+byte_of n (suc zero) e h = ap (λ (l : List ℕ). get_or l 1 0) e
+byte_of n (suc (suc zero)) e h = ap (λ (l : List ℕ). get_or l 2 0) e
+byte_of n (suc (suc (suc zero))) e h = ap (λ (l : List ℕ). get_or l 3 0) e
+byte_of n (suc (suc (suc (suc k)))) e h = absurd (omega arith)
 
 -- k bytes are 8 k bits
 by_eight : (k : ℕ) → 256 ^ k ≡ 2 ^ (8 * k)

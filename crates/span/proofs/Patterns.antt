@@ -11,24 +11,27 @@ use Rattle.span.specs.declared.Strokes.{Strokes}
 use Rattle.span.specs.Fragments.{stays, paint, byte}
 use Rattle.span.specs.Strokes.{stroke, pattern_byte}
 
--- what holds of each of four holds at each index
-quarters : (P : ℕ → ℕ → Type 0) {a b c d : ℕ} → P 0 a → P 1 b → P 2 c → P 3 d → (g : ℕ) → g < 4 → P g (get_or (a ∷ b ∷ c ∷ d ∷ []) g 0)
-quarters P pa pb pc pd zero h = pa
-quarters P pa pb pc pd (suc zero) h = pb
-quarters P pa pb pc pd (suc (suc zero)) h = pc
-quarters P pa pb pc pd (suc (suc (suc zero))) h = pd
-quarters P pa pb pc pd (suc (suc (suc (suc g)))) h = absurd (omega arith)
+-- what holds at each of four indices holds at every one
+pub four : (P : ℕ → Type 0) → P 0 → P 1 → P 2 → P 3 → (g : ℕ) → g < 4 → P g
+four P pa pb pc pd zero h = pa
+four P pa pb pc pd (suc zero) h = pb
+four P pa pb pc pd (suc (suc zero)) h = pc
+four P pa pb pc pd (suc (suc (suc zero))) h = pd
+four P pa pb pc pd (suc (suc (suc (suc g)))) h = absurd (omega arith)
 
 -- word n holds f at the pixels of word g
 abbrev pub Holds : (ℕ → ℕ) → ℕ → ℕ → Type 0
 Holds f g n = (k : ℕ) → k < 8 → byte n k ≡ f (8 * g + k)
 
 -- four words that hold f at 32 pixels hold it, repeated, at every pixel
+pub pattern_of : (f : ℕ → ℕ) (ws : List ℕ) → ((g : ℕ) → g < 4 → Holds f g (get_or ws g 0)) → (j : ℕ) → pattern_byte ws j ≡ f (j % 32)
+pattern_of f ws h j =
+    let e : 8 * (j / 8 % 4) + j % 8 ≡ j % 32 = omega arith in
+    h (j / 8 % 4) (omega arith) (j % 8) (omega arith) ∙ ap f e
+
 pub pattern_at : (f : ℕ → ℕ) (a b c d : ℕ) → Holds f 0 a → Holds f 1 b → Holds f 2 c → Holds f 3 d
     → (j : ℕ) → pattern_byte (a ∷ b ∷ c ∷ d ∷ []) j ≡ f (j % 32)
-pattern_at f a b c d pa pb pc pd j =
-    let e : 8 * (j / 8 % 4) + j % 8 ≡ j % 32 = omega arith in
-    quarters (Holds f) pa pb pc pd (j / 8 % 4) (omega arith) (j % 8) (omega arith) ∙ ap f e
+pattern_at f a b c d pa pb pc pd = pattern_of f (a ∷ b ∷ c ∷ d ∷ []) (four (λ g. Holds f g (get_or (a ∷ b ∷ c ∷ d ∷ []) g 0)) pa pb pc pd)
 
 -- it repeats
 pub pattern_again : (ws : List ℕ) (j : ℕ) → pattern_byte ws (j % 32) ≡ pattern_byte ws j

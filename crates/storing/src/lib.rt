@@ -6,72 +6,32 @@ ghost use Rattle.card.specs.Access.{stores};
 
 use card::{CLEAR, Card, Register, SET};
 
-// The card with v stored in a register. The 64-byte copy and continue have nothing to store here.
-pub fn store(card: Card, register: Register, v: u32) -> Card
-    ensures { result ≡ stores card register v }
+// v stored in a register of the card. The 64-byte copy and continue have nothing to store here.
+#[tactic(auto, unfolding(card::specs::Access::stores))]
+pub fn store(card: &mut Card, register: Register, v: u32)
+    ensures { card.new ≡ stores card.old register v }
 {
-    let mut next = card;
     match register {
-        Register::Foreground => {
-            next.registers.foreground = v;
-            next
-        }
-        Register::Background => {
-            next.registers.background = v;
-            next
-        }
-        Register::PlaneMask => {
-            next.registers.plane = v;
-            next
-        }
+        Register::Foreground => card.registers.foreground = v,
+        Register::Background => card.registers.background = v,
+        Register::PlaneMask => card.registers.plane = v,
         Register::PixelMaskOnce => {
-            next.mask.bits = v;
-            next.mask.marked = SET;
-            next
+            card.mask.bits = v;
+            card.mask.marked = SET;
         }
-        Register::Mode => {
-            next.registers.mode = v;
-            next
-        }
-        Register::RasterOperation => {
-            next.registers.raster = v;
-            next
-        }
-        Register::PixelShift => {
-            next.copier.writing = CLEAR;
-            next
-        }
-        Register::Bresenham1 => {
-            next.registers.bresenham1 = v;
-            next
-        }
-        Register::Bresenham2 => {
-            next.registers.bresenham2 = v;
-            next
-        }
-        Register::Bresenham3 => {
-            next.registers.bresenham3 = v;
-            next
-        }
-        Register::Continue => next,
+        Register::Mode => card.registers.mode = v,
+        Register::RasterOperation => card.registers.raster = v,
+        Register::PixelShift => card.copier.writing = CLEAR,
+        Register::Bresenham1 => card.registers.bresenham1 = v,
+        Register::Bresenham2 => card.registers.bresenham2 = v,
+        Register::Bresenham3 => card.registers.bresenham3 = v,
         Register::PixelMask => {
-            next.mask.bits = v;
-            next.mask.marked = CLEAR;
-            next
+            card.mask.bits = v;
+            card.mask.marked = CLEAR;
         }
-        Register::FillMask => {
-            next.registers.fill = v;
-            next
-        }
-        Register::BlockColour(k) => {
-            let at = (k % 8) as usize;
-            let mut registers = card.registers;
-            registers.block[at] = v;
-            next.registers = registers;
-            next
-        }
-        Register::CopySource => next,
-        Register::CopyDestination => next,
-        Register::Missing => next,
+        Register::FillMask => card.registers.fill = v,
+        Register::BlockColour(k) => card.registers.block[(k % 8) as usize] = v,
+        Register::Continue | Register::CopySource | Register::CopyDestination | Register::Missing =>
+            {}
     }
 }

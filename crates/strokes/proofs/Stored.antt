@@ -3,46 +3,13 @@ use mathlib.Core.Path.{◌≡◌, refl, ap, ap₂, ◌∙◌}
 use mathlib.Core.Logic.{◌⊎◌, inl, inr, ⊎_elim}
 use mathlib.Core.List.{List, ◌++◌}
 use Prim.Native.Nat.{ℕ, zero, suc, ◌+◌, ◌*◌, ◌/◌, ◌%◌, ◌≤◌, ◌<◌}
-use native.Mathlib.Nat.{le_of_suc-le-suc, not-suc-le-zero, div-one}
+use native.Mathlib.Nat.{le_of_suc-le-suc, not-suc-le-zero}
 use native.Mathlib.Omega.{arith}
 use lib.ListN.{length, get_or, set, drop, length-set, get_or-append}
 use lib.Seq.{sets, get_or-set_same, get_or-set_other}
 use Rattle.span.specs.Fragments.{listed, byte}
 use Rattle.span.specs.Strokes.{pattern_byte}
 use Rattle.span.proofs.Listed.{listed-set, listed-none, listed-length, listed_at}
-
--- eight stores, as the code makes them
-pub put_eight : (v : List ℕ) (a w : ℕ)
-    → set
-    (set
-    (set
-    (set
-    (set
-    (set
-    (set (set v a (w % 256)) (a + 1) (w / 256 % 256))
-    (a + 2)
-    (w / 65536 % 256))
-    (a + 3)
-    (w / 16777216 % 256))
-    (a + 4)
-    (w / 4294967296 % 256))
-    (a + 5)
-    (w / 1099511627776 % 256))
-    (a + 6)
-    (w / 281474976710656 % 256))
-    (a + 7)
-    (w / 72057594037927936 % 256)
-    ≡ sets v a (listed 8 (byte w))
-unfolding listed byte
-put_eight v a w =
-    let e1 : suc a ≡ a + 1 = omega arith in
-    let e2 : suc (suc a) ≡ a + 2 = omega arith in
-    let e3 : suc (suc (suc a)) ≡ a + 3 = omega arith in
-    let e4 : suc (suc (suc (suc a))) ≡ a + 4 = omega arith in
-    let e5 : suc (suc (suc (suc (suc a)))) ≡ a + 5 = omega arith in
-    let e6 : suc (suc (suc (suc (suc (suc a))))) ≡ a + 6 = omega arith in
-    let e7 : suc (suc (suc (suc (suc (suc (suc a)))))) ≡ a + 7 = omega arith in
-    rw (e7, e6, e5, e4, e3, e2, e1, div-one)
 
 pub sets_outside : (n : ℕ) (f : ℕ → ℕ) (v : List ℕ) (a i : ℕ) → (i < a) ⊎ (a + n ≤ i) → get_or (sets v a (listed n f)) i 0 ≡ get_or v i 0
 unfolding listed

@@ -1,10 +1,11 @@
 -- Pixels changed, counted by the marks of words: one word, and the four of a pattern; and the pattern drawn. `once_turn` assumes bytes, and room for them.
 use mathlib.Core.Path.{◌≡◌, refl, ap, sym, ◌∙◌}
-use mathlib.Core.Bool.{Bool}
+use mathlib.Core.Bool.{Bool, true, false}
 use mathlib.Core.List.{List}
-use Prim.Native.Nat.{ℕ, ◌+◌, ◌≤◌, ◌<◌}
+use Prim.Native.Nat.{ℕ, zero, suc, ◌+◌, ◌*◌, ◌^◌, ◌≤◌, ◌<◌}
 use native.Mathlib.Omega.{arith}
 use lib.Bits.{bit_and, bit_xor}
+use lib.Count.{ones, ones_cat}
 use lib.ListN.{length, get_or}
 use lib.Seq.{sets, length-sets}
 use Rattle.raster.specs.Pixel.{value}
@@ -38,10 +39,22 @@ abbrev Totals : ℕ → ℕ → Type 0
 Totals w r = (f : ℕ → ℕ) → w ≡ joined (listed 8 f) → added (listed 8 f) < 256 → r ≡ added (listed 8 f)
 
 -- one word
-pub one_word : {f : ℕ → Bool} {w r : ℕ} → Marks f w → Totals w r → (r ≡ counted 8 f) × (r ≤ 8)
+digit : (b : Bool) → ones (value b) ≡ value b
+unfolding ones
+digit true = refl
+digit false = refl
+
+marks-ones : (n : ℕ) (f : ℕ → Bool) → ones (joined (listed n (λ k. value (f k)))) ≡ added (listed n (λ k. value (f k)))
+unfolding joined listed added ones
+marks-ones zero f = refl
+marks-ones (suc n) f =
+    let above : ℕ = joined (listed n (λ k. value (f (suc k)))) in
+    let e : value (f 0) + 256 * above ≡ above * 2 ^ 8 + value (f 0) = omega arith in
+    ap ones e ∙ (ones_cat 8 above (value (f 0)) (omega (arith, value_le (f 0))) ∙ omega (arith, digit (f 0), marks-ones n (λ k. f (suc k))))
+
+pub one_word : {f : ℕ → Bool} {w r : ℕ} → Marks f w → r ≡ ones w → (r ≡ counted 8 f) × (r ≤ 8)
 one_word {f} {w} {r} m t =
-    let n = added-counted 8 f in
-    let e : r ≡ counted 8 f = t (λ k. value (f k)) m.marks (omega (arith, n, counted_le 8 f)) ∙ n in
+    let e : r ≡ counted 8 f = t ∙ (ap ones m.marks ∙ (marks-ones 8 f ∙ added-counted 8 f)) in
     (e, omega (arith, e, counted_le 8 f))
 
 -- four words, whose marks are added first

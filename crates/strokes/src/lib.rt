@@ -18,9 +18,10 @@ use tables::Table;
 pub mod buffer;
 mod memory;
 
-// ---- Pixels drawn.
+// ---- Pixels drawn. What t makes is said anew in each contract: a step holds for every f that t makes, and a field of the table can't have them all.
+// Places are those of the span, since what a pixel takes goes by its place: so a part and its bounds, and no shorter slice.
 
-// The bytes of a word added up, where they are at most 255 in all. It says nothing of larger sums, so it is private here.
+// The bytes of a word added up by one product, where they are at most 255 in all. It says nothing of larger sums, so it is private here.
 fn total(w: u64) -> u32
     ensures { (f : ℕ → ℕ) → w ≡ joined (listed 8 f) → added (listed 8 f) < 256 → result ≡ added (listed 8 f) }
 {
@@ -41,7 +42,7 @@ fn word(part: &mut [u8], at: usize, and: u64, xor: u64) -> u64
     words::differing(old, new)
 }
 
-// Four words as 32 bytes.
+// Four words as 32 bytes, a store each: a loop over four would want an invariant, and say no more.
 fn bytes(words: [u64; 4]) -> [u8; 32]
     ensures { (j : ℕ) → j < 32 → get_or result j 0 ≡ pattern_byte words j }
 {
@@ -62,13 +63,11 @@ fn pattern(part: &mut [u8], at: usize, and: [u8; 32], xor: [u8; 32]) -> u32
         → Further op f at (at + 32) part.old result part.new) }
 {
     let mut changed: u8 = 0;
-    let mut j: usize = 0;
-    while j < 32 {
+    for j in 0..32 {
         let old = part[at + j];
         let new = (old & and[j]) ^ xor[j];
         part[at + j] = new;
         changed += words::differ(old, new);
-        j += 1;
     }
     changed as u32
 }
@@ -79,15 +78,11 @@ fn by_patterns(part: &mut [u8], n: usize, t: Table) -> u32
     ensures { (result ≤ 32 * n) × ((op : ℕ) (f : ℕ → Fragment) → Makes t op f
         → Further op f 0 (32 * n) part.old result part.new) }
 {
-    let ands = t.and;
-    let xors = t.xor;
-    let and = bytes(ands);
-    let xor = bytes(xors);
+    let and = bytes(t.and);
+    let xor = bytes(t.xor);
     let mut changed: u32 = 0;
-    let mut i = 0;
-    while i < n {
+    for i in 0..n {
         changed += pattern(part, 32 * i, and, xor);
-        i += 1;
     }
     changed
 }
@@ -99,10 +94,8 @@ fn by_words(part: &mut [u8], start: usize, n: usize, t: Table) -> u32
         → Further op f (8 * start) (8 * n) part.old result part.new) }
 {
     let mut changed: u32 = 0;
-    let mut g = start;
-    while g < n {
-        changed += total(word(part, 8 * g, t.and[g % 4], t.xor[g % 4]));
-        g += 1;
+    for g in start..n {
+        changed += word(part, 8 * g, t.and[g % 4], t.xor[g % 4]).count_ones();
     }
     changed
 }
@@ -114,15 +107,14 @@ fn by_bytes(part: &mut [u8], start: usize, end: usize, and: u64, xor: u64) -> u3
         → ((j : ℕ) → start ≤ j → j < end → (byte and (j % 8) ≡ keeps op (f j)) × (byte xor (j % 8) ≡ flips op (f j)))
         → Further op f start end part.old result part.new) }
 {
+    let and = and.to_le_bytes();
+    let xor = xor.to_le_bytes();
     let mut changed: u32 = 0;
-    let mut j = start;
-    while j < end {
-        let k = 8 * (j % 8);
+    for j in start..end {
         let old = part[j];
-        let new = (old & ((and >> k) % 0x100) as u8) ^ ((xor >> k) % 0x100) as u8;
+        let new = (old & and[j % 8]) ^ xor[j % 8];
         part[j] = new;
         changed += words::differ(old, new) as u32;
-        j += 1;
     }
     changed
 }
@@ -150,23 +142,11 @@ fn count(enable: u32, n: usize) -> u32
     ensures { result ≡ counted n (λ j. bit enable (j % 32)) }
 {
     let n = n as u32;
-    let turns = n / 32 * u32::count_ones(enable);
-    let rest = n % 32;
-    if rest == 0 {
-        return turns;
-    }
-    turns + u32::count_ones(enable % (1 << rest))
+    let turns = n / 32 * enable.count_ones();
+    turns + (enable % (1 << (n % 32))).count_ones()
 }
 
 // ---- The span.
-
-// Where the span ends in a part of that length.
-fn shorter(width: u32, length: usize) -> usize
-    ensures { result ≡ min width length }
-{
-    let width = width as usize;
-    if width < length { width } else { length }
-}
 
 // Draws the span at the start of the part, or as much of it as the part holds, and counts the pixels enabled and those changed there.
 fn draw(part: &mut [u8], s: Strokes) -> Tally
@@ -175,7 +155,7 @@ fn draw(part: &mut [u8], s: Strokes) -> Tally
         × (result.changed ≡ altered s.op (stroke s) part.old (min s.width (length part.old))) }
 {
     let t = tables::digest(s);
-    let end = shorter(s.width, part.len());
+    let end = (s.width as usize).min(part.len());
     let whole = by_patterns(part, end / 32, t);
     let rest = last(part, end, t);
     let changed = whole + rest;
@@ -196,6 +176,7 @@ pub fn draw_at(vram: &mut [u8], first: usize, s: Strokes) -> Tally
 // ---- Text.
 
 // The pattern once, from the first pixel on, by its words as they are: no byte of the table has to be stored first.
+// Not `by_words` from 0 to 4: four set-bit counts keep the compiler from taking two words at once, and text is slower (measured).
 fn once(part: &mut [u8], t: Table) -> u32
     requires { 32 ≤ length part.old }
     ensures { (op : ℕ) (f : ℕ → Fragment) → Makes t op f → Further op f 0 32 part.old result part.new }

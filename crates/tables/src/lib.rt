@@ -7,10 +7,10 @@ ghost use Rattle.span.specs.Fragments.{stays, paint, byte};
 ghost use Rattle.span.specs.Strokes.{stroke};
 ghost use Rattle.tables.specs.Reduced.{keeps, flips, Makes};
 
-use pixels::{ONES, Reduced};
+use pixels::Reduced;
 use span::Strokes;
 
-// The pattern digested, eight pixels a word: an old word becomes (old & and) ^ xor.
+// The pattern digested, eight pixels a word: an old word becomes (old & and) ^ xor. Two arrays, and not four of `Reduced`: whole patterns take each as 32 bytes.
 #[derive(Clone, Copy)]
 pub struct Table {
     pub and: [u64; 4],
@@ -36,47 +36,23 @@ fn of_four(a: Reduced, b: Reduced, c: Reduced, d: Reduced) -> Table
     }
 }
 
-// The table of the strokes.
+// The table of the strokes. Four lines, a word each: a chain over bits and sources is no plainer.
+#[inline(always)]
 pub fn digest(s: Strokes) -> Table
     ensures { Makes result s.op (stroke s) }
 {
-    let a = masked(s.op, s.mask, (s.enable % 0x100) as u8, s.source[0]);
-    let b = masked(s.op, s.mask, (s.enable / 0x100 % 0x100) as u8, s.source[1]);
-    let c = masked(
-        s.op,
-        s.mask,
-        (s.enable / 0x1_0000 % 0x100) as u8,
-        s.source[2],
-    );
-    let d = masked(
-        s.op,
-        s.mask,
-        (s.enable / 0x100_0000 % 0x100) as u8,
-        s.source[3],
-    );
-    of_four(a, b, c, d)
+    let [a, b, c, d] = s.enable.to_le_bytes();
+    of_four(
+        masked(s.op, s.mask, a, s.source[0]),
+        masked(s.op, s.mask, b, s.source[1]),
+        masked(s.op, s.mask, c, s.source[2]),
+        masked(s.op, s.mask, d, s.source[3]),
+    )
 }
 
-// As `masked`, for operation 3, which takes the source: there is nothing to choose.
-fn taken(mask: u64, bits: u8, source: u64) -> Reduced
-    ensures { (k : ℕ) → k < 8
-        → (byte result.and k ≡ keeps 3 (cond (bit bits k) (paint (byte mask k) (byte source k)) stays))
-        × (byte result.xor k ≡ flips 3 (cond (bit bits k) (paint (byte mask k) (byte source k)) stays)) }
-{
-    let mask = mask & words::widen(bits);
-    Reduced {
-        and: mask ^ ONES,
-        xor: mask & source,
-    }
-}
-
-// The table of the strokes under operation 3, whatever their own is.
+// The same under operation 3, whatever their own is. `digest` is built in, and the compiler finds that nothing is left to choose.
 pub fn copied(s: Strokes) -> Table
     ensures { Makes result 3 (stroke s) }
 {
-    let a = taken(s.mask, (s.enable % 0x100) as u8, s.source[0]);
-    let b = taken(s.mask, (s.enable / 0x100 % 0x100) as u8, s.source[1]);
-    let c = taken(s.mask, (s.enable / 0x1_0000 % 0x100) as u8, s.source[2]);
-    let d = taken(s.mask, (s.enable / 0x100_0000 % 0x100) as u8, s.source[3]);
-    of_four(a, b, c, d)
+    digest(Strokes { op: 3, ..s })
 }

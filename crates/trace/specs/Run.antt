@@ -2,6 +2,7 @@
 use Rattle.std.specs.Prelude.{cond, List, [], ◌∷◌, ℕ, zero, suc, ◌+◌, ◌*◌, eqb, length, drop}
 use Rattle.card.specs.declared.Card.{Card}
 use Rattle.card.specs.declared.Write.{Write}
+use Rattle.rules.specs.Numbers.{told_by}
 use Rattle.rules.specs.Refusal.{bad_length, refusal}
 use Rattle.rules.specs.Writes.{count, next, picture, changed}
 use Rattle.format.specs.Traces.{largest, entry_size, writes, well_formed_up_to}
@@ -16,10 +17,10 @@ pub record State : Type 0 where
   pub card : Card
   pub picture : List ℕ
 
--- what a run answers, with the picture that it leaves
-abbrev pub outcome_of : Ran → List ℕ → State
-outcome_of r v =
-    record { number = r.number; applied = r.applied; pixels = r.pixels; changed = r.changed; card = r.card; picture = v }
+-- what a run answers, with the card and the picture that it leaves
+abbrev pub outcome_of : Ran → Card → List ℕ → State
+outcome_of r c v =
+    record { number = told_by r.refused; applied = r.applied; pixels = r.pixels; changed = r.changed; card = c; picture = v }
 
 -- nothing drawn, with this number
 abbrev pub nothing : ℕ → Card → List ℕ → State

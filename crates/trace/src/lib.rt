@@ -2,7 +2,10 @@
 // What each function means stands in specs/, under the headings of the scope paper.
 #![tactic(auto)]
 
-use card::Card;
+ghost use Rattle.std.specs.Prelude.{◌≡◌};
+ghost use Rattle.rules.specs.Numbers.{told_by};
+
+use rules::Refusal;
 
 mod reading;
 mod replay;
@@ -10,12 +13,32 @@ mod replay;
 pub use reading::unread;
 pub use replay::run;
 
-// What a run answers: the number, the entries applied, the total pixels, those changed and the next card.
+// What a run answers: why it was refused, where it was, the entries applied, the total pixels, and those changed.
 #[derive(Clone, Copy)]
 pub struct Ran {
-    pub number: u32,
+    pub refused: Option<Refusal>,
     pub applied: u32,
     pub pixels: u32,
     pub changed: u32,
-    pub card: Card,
+}
+
+impl Ran {
+    // No entry applied: how a run begins, and what is answered of a part that is not run.
+    pub(crate) fn nothing(refused: Option<Refusal>) -> Ran
+        ensures { result ≡ record { refused = refused; applied = 0; pixels = 0; changed = 0 } }
+    {
+        Ran {
+            refused,
+            applied: 0,
+            pixels: 0,
+            changed: 0,
+        }
+    }
+
+    // Its number, 0 where nothing was refused.
+    pub fn number(&self) -> u32
+        ensures { result ≡ told_by self.now.refused }
+    {
+        self.refused.map_or(0, u32::from)
+    }
 }

@@ -1,90 +1,37 @@
 // Numbers as a person types them.
 #![tactic(auto)]
 
-ghost use Rattle.std.specs.Prelude.{◌≡◌, ◌≤◌};
-ghost use Rattle.typed.specs.Typed.{digit_of, decimal_of, hex_of};
-
-// A number that was read, or that the text is none.
-#[derive(Clone, Copy)]
-pub struct Number {
-    pub ok: bool,
-    pub value: u32,
-}
-
-const NONE: Number = Number {
-    ok: false,
-    value: 0,
-};
+ghost use Rattle.std.specs.Prelude.{◌≡◌};
+ghost use Rattle.typed.specs.Typed.{decimal_of, hex_of};
 
 // A decimal number below 10,000,000.
-#[tactic(auto, using(crate::proofs::Digits::at_end), unfolding(crate::specs::Typed::decimal_of))]
-pub fn decimal(text: &[u8]) -> Number
+#[tactic(auto, using(crate::proofs::Digits::at_end, crate::proofs::Digits::bad_digit, crate::proofs::Digits::too_long, crate::proofs::Digits::one_more), unfolding(crate::specs::Typed::decimal_of))]
+pub fn decimal(text: &[u8]) -> Option<u32>
     ensures { result ≡ decimal_of text.now }
 {
-    let n = text.len();
-    if n == 0 {
-        return NONE;
+    if text.is_empty() {
+        return None;
     }
     let mut value: u32 = 0;
-    let mut i = 0;
-    while i < n {
-        let digit = digit_of(text[i]);
-        if 9 < digit {
-            return NONE;
-        }
+    for &c in text {
+        let digit = char::from(c).to_digit(10)?;
         if 999999 < value {
-            return NONE;
+            return None;
         }
         value = value * 10 + digit;
-        i += 1;
     }
-    Number { ok: true, value }
+    Some(value)
 }
 
 // A number of exactly two hexadecimal digits.
-#[tactic(auto, unfolding(crate::specs::Typed::hex_of))]
-pub fn two_hex_digits(text: &[u8]) -> Number
+#[tactic(auto, using(crate::proofs::Digits::is_none, crate::proofs::Digits::is_digit, crate::proofs::Digits::both_digits), unfolding(crate::specs::Typed::hex_of))]
+pub fn two_hex_digits(text: &[u8]) -> Option<u8>
     ensures { result ≡ hex_of text.now }
 {
-    if text.len() != 2 {
-        return NONE;
-    }
-    let high = digit_of(text[0]);
-    let low = digit_of(text[1]);
-    if 15 < high {
-        return NONE;
-    }
-    if 15 < low {
-        return NONE;
-    }
-    Number {
-        ok: true,
-        value: high * 16 + low,
-    }
-}
-
-// The value of a hexadecimal digit, or 16.
-#[tactic(auto, unfolding(crate::specs::Typed::digit_of))]
-fn digit_of(c: u8) -> u32
-    ensures { (result ≡ digit_of c) × (result ≤ 16) }
-{
-    if c < 48 {
-        return 16;
-    }
-    if c <= 57 {
-        return (c - 48) as u32;
-    }
-    if c < 65 {
-        return 16;
-    }
-    if c <= 70 {
-        return (c - 55) as u32;
-    }
-    if c < 97 {
-        return 16;
-    }
-    if c <= 102 {
-        return (c - 87) as u32;
-    }
-    16
+    let &[high, low] = text else {
+        return None;
+    };
+    let high = char::from(high).to_digit(16)?;
+    let low = char::from(low).to_digit(16)?;
+    Some((high * 16 + low) as u8)
 }

@@ -86,7 +86,7 @@ module _ (c : Card) (w : Write) (opaque shown : Bool) (i p : ℕ) (v : List ℕ)
         changes = sym (differing-none v);
       }
 
-same_eq : (a b c d : ℕ) → (a ≡ b → c ≡ d) → (c ≡ d → a ≡ b) → eqb a b ≡ eqb c d
+pub same_eq : (a b c d : ℕ) → (a ≡ b → c ≡ d) → (c ≡ d → a ≡ b) → eqb a b ≡ eqb c d
 same_eq a b c d f g = go (ℕ_discrete a b)
   where
     go : Dec (a ≡ b) → eqb a b ≡ eqb c d

@@ -1,49 +1,54 @@
--- Signed fields, and how far a step reaches. Assumes nothing.
-use mathlib.Core.Path.{◌≡◌, ap, ap₂, sym, ◌∙◌}
-use mathlib.Core.Bool.{Bool, true, false, cond, not}
-use Prim.Native.Nat.{ℕ, ◌+◌, ◌-◌, ◌/◌, ◌%◌, ◌^◌, ◌≤◌, ◌<◌}
+-- How far a walk's start and a step of it reach. Assumes nothing.
+use mathlib.Core.Bool.{Bool, true, false, cond}
+use Prim.Native.Nat.{ℕ, ◌+◌, ◌/◌, ◌%◌, ◌^◌, ◌≤◌, ◌<◌}
 use native.Mathlib.Omega.{arith}
-use native.Mathlib.Decide.{dec_lt}
-use lib.Dec.{leb, ltb}
-use borrow.Author.Tests.{lt-ltb, le-ltb, lt-leb, le-leb}
-use Rattle.rules.specs.Lines.{signed, stepped, below_zero, plus, minus}
+use lib.Dec.{eqb, ltb}
+use Rattle.card.specs.Registers.{is_set}
+use Rattle.card.specs.declared.Card.{Card}
+use Rattle.card.specs.declared.Write.{Write}
+use Rattle.rules.specs.Modes.{fill_first}
+use Rattle.rules.specs.Lines.{natural, signed, start, visit_count, stepped, below_zero, plus, minus}
 use Rattle.rules.specs.declared.Visit.{Visit}
-use Rattle.rules.specs.declared.Whole.{Whole}
-use Rattle.walks.specs.Reach.{Parts, Fit, Near}
-
--- what the code makes of a field is the signed number
-pub signed_is : (w k n f : ℕ) (r : Whole) → f ≡ n / 2 ^ k % 2 ^ w → r.more ≡ f → r.less ≡ cond (ltb f (2 ^ (w - 1))) 0 (2 ^ w) → r ≡ signed w k n
-signed_is w k n f r e m l =
-    ap₂ (λ (x y : ℕ). record { more = x; less = y }) (m ∙ e) (l ∙ ap (λ (x : ℕ). cond (ltb x (2 ^ (w - 1))) 0 (2 ^ w)) e)
+use Rattle.walks.specs.Reach.{Parts, Near}
 
 cond_le : (b : Bool) (n : ℕ) → cond b 0 n ≤ n
 cond_le true n = omega arith
 cond_le false n = omega arith
 
--- a test turned round
-pub turned : (a b c d : ℕ) → (a ≤ b → d ≤ c) → (b < a → c < d) → leb a b ≡ not (ltb c d)
-turned a b c d f g = go (dec_lt b a)
-  where
-    go : Dec (b < a) → leb a b ≡ not (ltb c d)
-    go (yes h) = lt-leb a b h ∙ sym (ap not (lt-ltb c d (g h)))
-    go (no h) = let l : a ≤ b = omega arith in le-leb a b l ∙ sym (ap not (le-ltb c d (f l)))
-
 pub nearer : (m m' : ℕ) (s : Visit) → m ≤ m' → Near m s → Near m' s
 nearer m m' s h ((pm, pl), (em, el)) = ((omega arith, omega arith), (omega arith, omega arith))
 
--- what a walk starts with is no more than a word
-pub word_parts : (n : ℕ) → Parts (2 ^ 33) (signed 32 0 n)
+-- what a walk starts with is no more than a word and a little
+word_parts : (n : ℕ) → Parts (2 ^ 33) (signed 32 0 n)
 word_parts n = (omega arith, omega (arith, cond_le (ltb (n / 1 % 4294967296) 2147483648) 4294967296))
 
-pub error_parts : (n : ℕ) → Parts (2 ^ 33) (signed 17 15 n)
+error_parts : (n : ℕ) → Parts (2 ^ 33) (signed 17 15 n)
 error_parts n = (omega arith, omega (arith, cond_le (ltb (n / 32768 % 131072) 65536) 131072))
 
--- an increment is a short step
-pub short : (k n : ℕ) → Parts 65536 (signed 16 k n)
-short k n = (omega arith, cond_le (ltb (n / 2 ^ k % 65536) 32768) 65536)
+pub start_near : (c : Card) (w : Write) → w.address < 2 ^ 32 → Near (2 ^ 33) (start c w)
+unfolding start
+start_near c w h = go (eqb w.space 1)
+  where
+    go : (b : Bool) → Near (2 ^ 33)
+        (cond b (record { place = signed 32 0 c.line.place; error = signed 32 0 c.line.error })
+        (record { place = natural (fill_first w); error = signed 17 15 c.registers.bresenham3 }))
+    go true = (word_parts c.line.place, word_parts c.line.error)
+    go false = ((omega arith, omega arith), error_parts c.registers.bresenham3)
 
-pub short_fits : (k n : ℕ) {r : Whole} → r ≡ signed 16 k n → Fit r
-short_fits k n e = rw e (omega (arith, (short k n).0), omega (arith, (short k n).1))
+-- and it has few visits
+pub count_few : (c : Card) (w : Write) → visit_count c w ≤ 16
+unfolding visit_count
+count_few c w = go (eqb w.space 1) (is_set c.line.kept) (eqb (c.registers.bresenham3 % 16) 0)
+  where
+    go : (a b d : Bool) → cond a (cond b 16 0) (cond d 16 (c.registers.bresenham3 % 16)) ≤ 16
+    go true true d = omega arith
+    go true false d = omega arith
+    go false b true = omega arith
+    go false b false = omega arith
+
+-- an increment is a short step
+short : (k n : ℕ) → Parts 65536 (signed 16 k n)
+short k n = (omega arith, cond_le (ltb (n / 2 ^ k % 65536) 32768) 65536)
 
 -- and so is one of the walk
 pub stepped_near : (a b m : ℕ) (s : Visit) → Near m s → Near (m + 65536) (stepped a b s)

@@ -1,9 +1,9 @@
 -- What a walk answers, refused or drawn. Assumes nothing.
-use mathlib.Core.Path.{◌≡◌, sym, ◌∙◌}
-use mathlib.Core.Bool.{Bool, true, false}
-use mathlib.Core.List.{List}
+use mathlib.Core.Path.{◌≡◌, refl, sym, ◌∙◌}
+use mathlib.Core.Bool.{Bool, true, false, cond}
+use mathlib.Core.List.{List, [], ◌∷◌}
 use Prim.Native.Nat.{ℕ}
-use native.Mathlib.Omega.{arith}
+use lib.Dec.{eqb}
 use lib.ListN.{length}
 use borrow.Author.Tests.{eq-eqb, ne_eqb}
 use Rattle.span.specs.declared.Tally.{Tally}
@@ -11,17 +11,16 @@ use Rattle.card.specs.declared.Card.{Card}
 use Rattle.card.specs.declared.Write.{Write}
 use Rattle.rules.specs.Lines.{start, visit_count, visits, walked, visits_of, line_left, strays, wild, word}
 use Rattle.rules.specs.declared.Visit.{Visit}
+use Rattle.rules.specs.Numbers.{number_of}
+use Rattle.rules.specs.Refusal.{first_holding}
+use Rattle.rules.specs.declared.Refusal.{Refusal}
+use Rattle.rules.proofs.Numbers.{numbered, some_number}
 use Rattle.plan.specs.Plan.{walk_number}
 use Rattle.walks.specs.Contract.{Visited, Walked}
-use Rattle.walks.specs.declared.Walk.{Walk}
+use Rattle.rules.specs.declared.Refusal.TheVariants.{NoLine}
+use Rattle.std.proofs.Common.{Ok, Err}
 
-module _ (c : Card) (w : Write) (v v' : List ℕ) where
-  refused_walk : {r : Walk} (k : ℕ) → (k ≡ 0 → ⊥) → walk_number c w (length v) ≡ k
-      → (r.number ≡ k) × (r.tally.enabled ≡ 0) × (r.tally.changed ≡ 0) × (r.line ≡ c.line) → v' ≡ v → Walked c w v r v'
-  refused_walk {r = r} k some e p u =
-      let z = ne_eqb r.number 0 (λ q. some (sym p.0 ∙ q)) in
-      record { number = p.0 ∙ sym e; shows = rw z u; counts = rw z p.1; changes = rw z p.2; leaves = rw z p.3 }
-
+module _ (c : Card) (w : Write) (v : List ℕ) where
   -- the walk as the code has it
   module _ (s : Visit) (k : ℕ) (es : s ≡ start c w) (ek : k ≡ visit_count c w) where
     abbrev a : ℕ
@@ -34,27 +33,45 @@ module _ (c : Card) (w : Write) (v v' : List ℕ) where
     unfolding visits_of
     same_visits = rw (es, ek)
 
-    module _ {x y : Bool} (ex : x ≡ strays (length v) (visits a b k s)) (ey : y ≡ wild a b (visits a b k s)) where
-      pub strayed : {r : Walk} → x ≡ true → (r.number ≡ 8) × (r.tally.enabled ≡ 0) × (r.tally.changed ≡ 0) × (r.line ≡ c.line) → v' ≡ v → Walked c w v r v'
-      unfolding walk_number
-      strayed t p u = refused_walk 8 (λ q. omega arith) (rw (← same_visits, ← ex, t)) p u
+    -- what is found of the whole walk: a place outside, or an error
+    abbrev judged : ℕ
+    judged = first_holding ((8, strays (length v) (visits a b k s)) ∷ (12, wild a b (visits a b k s)) ∷ [])
 
-      pub ran-wild : {r : Walk} → x ≡ false → y ≡ true → (r.number ≡ 12) × (r.tally.enabled ≡ 0) × (r.tally.changed ≡ 0) × (r.line ≡ c.line) → v' ≡ v
-          → Walked c w v r v'
-      unfolding walk_number
-      ran-wild t t' p u = refused_walk 12 (λ q. omega arith) (rw (← same_visits, ← ex, ← ey, t, t')) p u
+    either : (x y z : Bool) (n : ℕ) → (n ≡ 0 → ⊥) → n ≡ cond x 8 (cond y 12 0) → n ≡ cond x 8 (cond y 12 (cond z 13 0))
+    either true y z n h e = e
+    either false true z n h e = e
+    either false false z n h e = absurd (h e)
 
-      pub had_none : {r : Walk} → x ≡ false → y ≡ false → k ≡ 0 → (r.number ≡ 13) × (r.tally.enabled ≡ 0) × (r.tally.changed ≡ 0) × (r.line ≡ c.line) → v' ≡ v
-          → Walked c w v r v'
-      unfolding walk_number
-      had_none t t' z p u = refused_walk 13 (λ q. omega arith) (rw (← same_visits, ← ex, ← ey, t, t', ← ek, eq-eqb _ _ z)) p u
+    neither : (x y z : Bool) → ◌≡◌ {A = ℕ} 0 (cond x 8 (cond y 12 0)) → ◌≡◌ {A = ℕ} (cond x 8 (cond y 12 (cond z 13 0))) (cond z 13 0)
+    neither true y z e = cc
+    neither false true z e = cc
+    neither false false z e = refl
 
-      pub was_drawn : {t : Tally} → x ≡ false → y ≡ false → (k ≡ 0 → ⊥) → Visited c w (visits a b k s) v t v' → (e : Visit) → e ≡ walked a b k s
-          → Walked c w v (record { number = 0; tally = t; line = record { place = word e.place; error = word e.error; kept = 1 } }) v'
-      unfolding walk_number line_left
-      was_drawn t t' z d e ee =
+    pub refused : (e : Refusal) → number_of e ≡ judged → Walked c w v (Err e) c v
+    unfolding walk_number
+    refused e n =
+        record {
+          number = either _ _ (eqb (visit_count c w) 0) _ (some_number e) (rw same_visits at n);
+          shows = rw (numbered e);
+          counts = rw (numbered e);
+          changes = rw (numbered e);
+          leaves = rw (numbered e);
+        }
+
+    module _ (n : 0 ≡ judged) where
+      left_to_count : walk_number c w (length v) ≡ cond (eqb k 0) 13 0
+      unfolding walk_number
+      left_to_count = neither _ _ _ (rw same_visits at n) ∙ rw ek
+
+      pub had_none : k ≡ 0 → Walked c w v (Err NoLine) c v
+      had_none z = record { number = sym (left_to_count ∙ rw (eq-eqb _ _ z)); shows = refl; counts = refl; changes = refl; leaves = refl }
+
+      pub was_drawn : {t : Tally} {v' : List ℕ} → (k ≡ 0 → ⊥) → Visited c w (visits a b k s) v t v' → (e : Visit) → e ≡ walked a b k s
+          → Walked c w v (Ok t) (record c { line = record { place = word e.place; error = word e.error; kept = 1 } }) v'
+      unfolding line_left
+      was_drawn z d e ee =
           record {
-            number = sym (rw (← same_visits, ← ex, ← ey, t, t', ← ek, ne_eqb _ _ z));
+            number = sym (left_to_count ∙ rw (ne_eqb _ _ z));
             shows = rw (← same_visits) d.shows;
             counts = rw (← same_visits) d.counts;
             changes = rw (← same_visits) d.changes;

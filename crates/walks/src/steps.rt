@@ -1,18 +1,26 @@
 // The steps of a walk, and the whole of it judged before the first pixel is drawn.
-ghost use Rattle.std.specs.Prelude.{◌≡◌, not, ◌||◌, ◌^◌, ◌≤◌};
+ghost use Rattle.std.specs.Prelude.{◌≡◌, [], ◌∷◌, not, ◌^◌, ◌≤◌, IfOk};
 ghost use Rattle.rules.specs.Lines.{within, in_sixteen_bits, stepped, visits as visits_from, walked, strays, wild};
+ghost use Rattle.rules.specs.Numbers.{told};
+ghost use Rattle.rules.specs.Refusal.{first_holding};
 ghost use Rattle.walks.specs.Reach.{Near};
 
-use crate::wholes;
-use crate::wholes::HALF_OF_16;
-use rules::{Visit, Whole};
+use crate::wholes::{minus, plus, signed};
+use rules::{Refusal, Visit, Whole};
 
-// What is found of a walk, and what it leaves.
+// Half of all numbers of 16 bits: from there on a field is below 0.
+const HALF_OF_16: u64 = 1 << 15;
+
+// A walk: the words of the increments, how many visits it has and where it starts.
 #[derive(Clone, Copy)]
-pub(crate) struct Judged {
-    pub strays: bool,
-    pub wild: bool,
-    pub end: Visit,
+pub(crate) struct Walk {
+    pub bresenham1: u32,
+    pub bresenham2: u32,
+    pub visits: u32,
+    pub start: Visit,
+    // no sum on its way wraps
+    ghost near: { Near (2 ^ 33) start },
+    ghost few: { visits ≤ 16 },
 }
 
 // A place outside n bytes.
@@ -20,10 +28,7 @@ fn outside(x: Whole, n: usize) -> bool
     requires { x.less ≤ 2 ^ 40 }
     ensures { result ≡ not (within n x) }
 {
-    if x.more < x.less {
-        return true;
-    }
-    n as u64 <= x.more - x.less
+    x.more < x.less || n as u64 <= x.more - x.less
 }
 
 // An error outside 16 bits.
@@ -31,57 +36,54 @@ fn too_far(x: Whole) -> bool
     requires { (x.more ≤ 2 ^ 40) × (x.less ≤ 2 ^ 40) }
     ensures { result ≡ not (in_sixteen_bits x) }
 {
-    if x.more + HALF_OF_16 < x.less {
-        return true;
-    }
-    x.less + HALF_OF_16 <= x.more
+    x.more + HALF_OF_16 < x.less || x.less + HALF_OF_16 <= x.more
 }
 
-// After each visit. The error is tested as it came to the visit.
-pub(crate) fn step(a: u32, b: u32, s: Visit) -> Visit
-    requires { Near (2 ^ 40) s }
-    ensures { result ≡ stepped a b s }
-{
-    let place = s.place;
-    let error = s.error;
-    if error.more < error.less {
-        return Visit {
-            place: wholes::plus(place, wholes::high(a)),
-            error: wholes::plus(error, wholes::low(a)),
-        };
+impl Walk {
+    // After each visit. The error is tested as it came to the visit.
+    #[tactic(auto, unfolding(rules::specs::Lines::stepped))]
+    pub(crate) fn step(&self, s: Visit) -> Visit
+        requires { Near (2 ^ 40) s }
+        ensures { result ≡ stepped self.now.bresenham1 self.now.bresenham2 s }
+    {
+        let place = s.place;
+        let error = s.error;
+        if error.more < error.less {
+            return Visit {
+                place: plus(place, signed(16, 16, self.bresenham1)),
+                error: plus(error, signed(16, 0, self.bresenham1)),
+            };
+        }
+        Visit {
+            place: plus(place, signed(16, 16, self.bresenham2)),
+            error: minus(error, signed(16, 0, self.bresenham2)),
+        }
     }
-    Visit {
-        place: wholes::plus(place, wholes::high(b)),
-        error: wholes::minus(error, wholes::low(b)),
-    }
-}
 
-pub(crate) fn or(a: bool, b: bool) -> bool
-    ensures { result ≡ a || b }
-{
-    if a { true } else { b }
-}
-
-// All visits of a walk from `s` on, against a VRAM of n bytes.
-pub(crate) fn judge(a: u32, b: u32, visits: u32, s: Visit, n: usize) -> Judged
-    requires { Near (2 ^ 33) s × (visits ≤ 16) }
-    ensures { (result.strays ≡ strays n (visits_from a b visits s)) × (result.wild ≡ wild a b (visits_from a b visits s))
-        × (result.end ≡ walked a b visits s) }
-{
-    let mut at = s;
-    let mut strays = false;
-    let mut wild = false;
-    let mut left = visits;
-    while 0 < left {
-        let next = step(a, b, at);
-        strays = or(strays, outside(at.place, n));
-        wild = or(wild, or(too_far(at.error), too_far(next.error)));
-        at = next;
-        left -= 1;
-    }
-    Judged {
-        strays,
-        wild,
-        end: at,
+    // All visits, against a VRAM of n bytes: refused for a place anywhere on the walk before it is for an error; or what is left after the last step.
+    pub(crate) fn judge(&self, n: usize) -> Result<Visit, Refusal>
+        ensures number { told result
+            ≡ first_holding
+            ((8, strays n (visits_from self.now.bresenham1 self.now.bresenham2 self.now.visits self.now.start))
+            ∷ (12, wild self.now.bresenham1 self.now.bresenham2 (visits_from self.now.bresenham1 self.now.bresenham2 self.now.visits self.now.start))
+            ∷ []) }
+        ensures end { IfOk result (λ end. end ≡ walked self.now.bresenham1 self.now.bresenham2 self.now.visits self.now.start) }
+    {
+        let mut at = self.start;
+        let mut strays = false;
+        let mut wild = false;
+        for i in 0..self.visits {
+            let next = self.step(at);
+            strays |= outside(at.place, n);
+            wild |= too_far(at.error) | too_far(next.error);
+            at = next;
+        }
+        if strays {
+            return Err(Refusal::Outside);
+        }
+        if wild {
+            return Err(Refusal::Wild);
+        }
+        Ok(at)
     }
 }

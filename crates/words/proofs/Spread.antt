@@ -1,14 +1,15 @@
--- The bits of a byte spread over a word, and two registers side by side. `widened` assumes a byte, `paired` a low register of 32 bits.
-use mathlib.Core.Path.{◌≡◌, ap, ap₂, sym, ◌∙◌}
+-- The bits of a byte spread over a word, and two registers side by side. `widened` assumes a byte, `paired` registers of 32 bits.
+use mathlib.Core.Path.{◌≡◌, refl, ap, ap₂, sym, ◌∙◌}
 use mathlib.Core.Bool.{Bool, cond}
 use mathlib.Core.List.{[], ◌∷◌}
 use Prim.Native.Nat.{ℕ, ◌+◌, ◌*◌, ◌/◌, ◌%◌, ◌^◌, ◌<◌}
 use native.Mathlib.Decide.{dec_lt}
 use native.Mathlib.Omega.{arith}
-use lib.Bits.{bit_and}
+use lib.Bits.{bit_and, bit_or}
 use lib.Dec.{eqb, eqb→eq}
 use lib.ListN.{get_or}
 use lib.Pow as Pow
+use Rattle.std.proofs.lemmas.Grind.{or_after_shift}
 use Rattle.raster.specs.Pixel.{bit}
 use Rattle.raster.proofs.Below.{all_below, all_are_below}
 use Rattle.span.specs.Fragments.{byte}
@@ -27,8 +28,9 @@ unfolding byte bit
 widened b k hb hk = eqb→eq _ _ (all_are_below 8 (right b) (all_are_below 256 (λ n. all_below 8 (right n)) tt b hb) k hk)
 
 -- two registers side by side
-pub paired : (low high k : ℕ) → low < 2 ^ 32 → k < 8 → byte (high * 0x100000000 + low) k ≡ byte (get_or (low ∷ high ∷ []) (k / 4) 0) (k % 4)
-paired low high k l h = go (dec_lt k 4)
+pub paired : (low high k : ℕ) → low < 2 ^ 32 → high < 2 ^ 32 → k < 8
+    → byte (bit_or (high * 2 ^ 32 % 2 ^ 64) low) k ≡ byte (get_or (low ∷ high ∷ []) (k / 4) 0) (k % 4)
+paired low high k l t h = ap (λ (n : ℕ). byte n k) (or_after_shift high (2 ^ 32) (2 ^ 64) low refl l (omega arith)) ∙ go (dec_lt k 4)
   where
     go : Dec (k < 4) → byte (high * 0x100000000 + low) k ≡ byte (get_or (low ∷ high ∷ []) (k / 4) 0) (k % 4)
     go (yes q) =

@@ -15,18 +15,14 @@ const HIGH: u64 = 0x8080_8080_8080_8080;
 pub fn pair(low: u32, high: u32) -> u64
     ensures { (k : ℕ) → k < 8 → byte result k ≡ byte (get_or (low ∷ high ∷ []) (k / 4) 0) (k % 4) }
 {
-    high as u64 * 0x1_0000_0000 + low as u64
+    (high as u64) << 32 | low as u64
 }
 
 // The word as the pixels from n on take it, where pixel 0 takes byte 0, pixel 8 too.
 pub fn turned(w: u64, n: usize) -> u64
     ensures { (k : ℕ) → k < 8 → byte result k ≡ byte w ((n + k) % 8) }
 {
-    let by = n % 8 * 8;
-    if by == 0 {
-        return w;
-    }
-    (w >> by) ^ (w << (64 - by))
+    w.rotate_right((n % 8 * 8) as u32)
 }
 
 // Byte k is 255 where bit k is set, else 0.
@@ -50,7 +46,7 @@ pub fn select(c: u64, a: u64, b: u64) -> u64
 pub fn differ(a: u8, b: u8) -> u8
     ensures { (result ≡ value (not (eqb b a))) × (result ≤ 1) }
 {
-    if b == a { 0 } else { 1 }
+    (a != b) as u8
 }
 
 // The same in each byte of two words. A byte of their exclusive-or has bit 7, or a lower bit, which 7Fh added to bits 6:0 carries there.

@@ -8,12 +8,6 @@ use Rattle.drawing.proofs.draw.Goals as goal
 pub planned-requires : goal.planned-requires
 planned-requires c = fits _ _ (said c.drawable.ensures c.if-drawable.true)
 
-pub returns-then-drawable : goal.returns-then-drawable
-returns-then-drawable c =
-    let d = said c.drawable.ensures c.if-drawable.true in
-    let e = c.planned.ensures in
-    record { shows = rw d e.shows; counts = rw d e.counts; changes = e.changes }
-
 pub returns-else-drawable : goal.returns-else-drawable
 returns-else-drawable c = let d = said c.drawable.ensures c.if-drawable.false in
     record { shows = rw d; counts = rw d; changes = sym (differing-none _) }

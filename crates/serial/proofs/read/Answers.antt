@@ -1,60 +1,64 @@
 -- `serial::read` meets its contract. The loop's invariant: what is left of the bytes, read from where the reading stands now,
 -- gives what the whole chunk gives. Assumes nothing.
-use mathlib.Core.Path.{ap, ◌∙◌}
-use native.Mathlib.Omega.{arith}
-use borrow.Author.Rules.{rules}
+use mathlib.Core.Path.{refl, sym, ◌∙◌}
+use Rattle.rules.proofs.Numbers.{passed_up, some_number}
 use Rattle.rules.proofs.Tests.{said}
-use Rattle.card.specs.declared.Write.{Write}
-use Rattle.format.proofs.Inside.{inside}
-use Rattle.line.specs.Serial.{standing, draws}
-use Rattle.line.proofs.Turns.{Whole, whole, begins, at_end, at_number, turn_byte, turn_entry}
+use Rattle.format.specs.Traces.{largest}
+use Rattle.line.specs.Serial.{complete}
+use Rattle.line.proofs.Joining.{chunk_unsound, chunk_bad, chunk-reads}
+use Rattle.line.proofs.Turns.{begins, at_end, at_number}
+use Rattle.serial.proofs.Reading.{any_number, whole_here, entry, one}
 use Rattle.serial.proofs.read.Goals as goal
 
-pub loop-at-init : goal.loop-at-init
-loop-at-init c = begins _ _ c.requires.1 c.sized.ensures
+pub returns-then-not-sound : goal.returns-then-not-sound
+returns-then-not-sound c = sym (chunk_unsound largest _ _ refl (any_number 0 _ ∙ said c.sound.ensures c.if-not-sound.true))
 
-pub draw-fed-requires : goal.draw-fed-requires
-draw-fed-requires c =
-    let is_whole : Whole c.loop-at.reader c.args.bytes.now c.loop-at.at = whole _ _ _ (said c.whole_at.ensures c.if-whole_at.true) in
-    let w = is_whole in
-    (c.if-reader-ne0.false, c.loop-at.invariant.can_be, w.opened, w.more)
+pub returns-then-bad_length : goal.returns-then-bad_length
+returns-then-bad_length c =
+    sym
+    (chunk_bad largest _ _ refl (any_number 0 _ ∙ said c.sound.ensures c.if-not-sound.false) (said c.bad_length.ensures c.if-bad_length.true))
 
-pub overflow_add-at : goal.overflow_add-at
-overflow_add-at c =
-    let is_whole : Whole c.loop-at.reader c.args.bytes.now c.loop-at.at = whole _ _ _ (said c.whole_at.ensures c.if-whole_at.true) in
-    omega (arith, is_whole.stands.long, c.well_formed.1.0)
+pub loop-rest-init : goal.loop-rest-init
+loop-rest-init c = begins _ _ (any_number 0 _ ∙ said c.sound.ensures c.if-not-sound.false)
 
-pub loop-at-smaller-then-whole_at : goal.loop-at-smaller-then-whole_at
-loop-at-smaller-then-whole_at c = omega (arith, c.loop-at-test.true)
+pub draw-requires : goal.draw-requires
+unfolding complete
+draw-requires c =
+    let g = c.loop-rest.invariant in
+    let w = whole_here _ _ (said c.whole_ahead.ensures.whole c.if-whole_ahead.true) in
+    (sym (any_number 0 c.loop-rest.r) ∙ g.can_be, w.opened, w.more)
 
-pub loop-at-preserved-then-whole_at : goal.loop-at-preserved-then-whole_at
-loop-at-preserved-then-whole_at c =
-    let is_whole : Whole c.loop-at.reader c.args.bytes.now c.loop-at.at = whole _ _ _ (said c.whole_at.ensures c.if-whole_at.true) in
-    let l = c.loop-at in
-    let w = is_whole in
-    turn_entry l.invariant c.if-reader-ne0.false w
-    (c.draw-fed.ensures ∙ ap (λ (x : Write). draws x (standing l.reader l.current l.vram)) (c.entry_at.ensures ∙ inside _ l.at w.stands.long))
+pub slice_bounds-rest-count : goal.slice_bounds-rest-count
+slice_bounds-rest-count c = (whole_here _ _ (said c.whole_ahead.ensures.whole c.if-whole_ahead.true)).stands.long
 
-pub byte-fed-requires : goal.byte-fed-requires
-byte-fed-requires c = (c.if-reader-ne0.false, c.loop-at.invariant.can_be)
+pub slice_bounds-rest-start : goal.slice_bounds-rest-start
+slice_bounds-rest-start c = (whole_here _ _ (said c.whole_ahead.ensures.whole c.if-whole_ahead.true)).stands.long
 
-pub overflow_add-at-else-whole_at : goal.overflow_add-at-else-whole_at
-overflow_add-at-else-whole_at c = omega (arith, c.loop-at-test.true, c.well_formed.1.0)
+pub returns-in_err-draw : goal.returns-in_err-draw
+returns-in_err-draw c =
+    let g = entry c.loop-rest.r c.loop-rest.invariant (said c.whole_ahead.ensures.whole c.if-whole_ahead.true) c.whole_ahead.ensures.room c.entry_at.ensures c.in_err-draw.ensures in
+    rw (passed_up c.from_residual.result _ c.from_residual.ensures.1)
+    (at_number g (some_number _)
+    ∙ sym (chunk-reads largest _ _ (any_number 0 _ ∙ said c.sound.ensures c.if-not-sound.false) (said c.bad_length.ensures c.if-bad_length.false)))
 
-pub loop-at-smaller : goal.loop-at-smaller
-loop-at-smaller c = omega (arith, c.loop-at-test.true)
+pub loop-rest-preserved-then-whole_ahead : goal.loop-rest-preserved-then-whole_ahead
+loop-rest-preserved-then-whole_ahead c =
+    entry c.loop-rest.r c.loop-rest.invariant (said c.whole_ahead.ensures.whole c.if-whole_ahead.true) c.whole_ahead.ensures.room c.entry_at.ensures c.in_ok-draw.ensures
 
-pub loop-at-preserved : goal.loop-at-preserved
-loop-at-preserved c = turn_byte c.loop-at.invariant c.loop-at-test.true c.byte-fed.ensures
+pub byte-requires : goal.byte-requires
+byte-requires c = sym (any_number 0 c.loop-rest.r) ∙ c.loop-rest.invariant.can_be
 
-pub shape_of-vram-after-loop-at : goal.shape_of-vram-after-loop-at
-shape_of-vram-after-loop-at c = search (rules, c.loop-at.invariant.size)
+pub returns-in_err-byte : goal.returns-in_err-byte
+returns-in_err-byte c =
+    let g = one c.loop-rest.r c.loop-rest.invariant c.in-len1-up.len_at_least c.in_err-byte.ensures in
+    rw (passed_up c.from_residual-in_err-byte.result _ c.from_residual-in_err-byte.ensures.1)
+    (at_number g (some_number _)
+    ∙ sym (chunk-reads largest _ _ (any_number 0 _ ∙ said c.sound.ensures c.if-not-sound.false) (said c.bad_length.ensures c.if-bad_length.false)))
 
-pub returns-after-loop-at : goal.returns-after-loop-at
-returns-after-loop-at c = at_end c.loop-at.invariant c.loop-at-test.false
+pub loop-rest-preserved : goal.loop-rest-preserved
+loop-rest-preserved c = one c.loop-rest.r c.loop-rest.invariant c.in-len1-up.len_at_least c.in_ok-byte.ensures
 
-pub shape_of-vram-then-reader-ne0 : goal.shape_of-vram-then-reader-ne0
-shape_of-vram-then-reader-ne0 c = search (rules, c.loop-at.invariant.size)
-
-pub returns-then-reader-ne0 : goal.returns-then-reader-ne0
-returns-then-reader-ne0 c = at_number c.loop-at.invariant c.if-reader-ne0.true
+pub returns : goal.returns
+returns c =
+    at_end c.loop-rest.invariant c.in_default.len_below
+    ∙ sym (chunk-reads largest _ _ (any_number 0 _ ∙ said c.sound.ensures c.if-not-sound.false) (said c.bad_length.ensures c.if-bad_length.false))

@@ -1,11 +1,10 @@
-use Prim.Native.Nat.{◌-◌}
 use lib.ListN.{length}
-use Rattle.line.specs.Serial.{standing}
 use Rattle.line.proofs.Turns.{Going}
+use Rattle.serial.specs.Steps.{before}
 use Rattle.serial.proofs.read.Given as goal
 
-abbrev pub invariant-loop-at : goal.invariant-loop-at
-invariant-loop-at l = Going l.bytes l.at (standing l.initial.reader l.initial.current l.initial.vram) (standing l.reader l.current l.vram)
+abbrev pub invariant-loop-rest : goal.invariant-loop-rest
+invariant-loop-rest l = Going l.bytes (before l.initial.r l.initial.card l.initial.vram) l.rest (before l.r l.card l.vram)
 
-abbrev pub decreases-loop-at : goal.decreases-loop-at
-decreases-loop-at l = length l.bytes - l.at
+abbrev pub decreases-loop-rest : goal.decreases-loop-rest
+decreases-loop-rest l = length l.rest

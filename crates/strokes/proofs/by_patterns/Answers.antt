@@ -4,14 +4,8 @@ use Prim.Native.Nat.{ℕ, ◌+◌, ◌*◌, ◌%◌}
 use native.Mathlib.Omega.{arith}
 use lib.ListN.{get_or}
 use Rattle.span.proofs.Patterns.{pattern_again}
-use Rattle.strokes.proofs.Turns.{further_none, further_as, further_then}
+use Rattle.strokes.proofs.Turns.{further_as, further_then}
 use Rattle.strokes.proofs.by_patterns.Goals as goal
-
-pub loop-i-init : goal.loop-i-init
-loop-i-init c = (omega arith, refl, omega arith, λ op f m. further_as (further_none op f 0 _) refl (omega arith) refl)
-
-pub overflow_add-changed : goal.overflow_add-changed
-overflow_add-changed c = omega (arith, c.pattern-changed.ensures.0)
 
 pub loop-i-preserved : goal.loop-i-preserved
 loop-i-preserved c =
@@ -19,10 +13,9 @@ loop-i-preserved c =
     let e = c.pattern-changed.ensures in
     let d : 32 * l.i + 32 ≡ 32 * (l.i + 1) = omega arith in (
       omega arith,
-      omega arith,
       omega (arith, e.0),
       λ op f m.
-          further_then (l.invariant.3 op f m)
+          further_then (l.invariant.2 op f m)
           (further_as
           (e.1 op f
           (λ j h.
@@ -33,9 +26,6 @@ loop-i-preserved c =
           refl d refl),
     )
 
-pub shape_of-part : goal.shape_of-part
-shape_of-part c = c.loop-i.invariant.1
-
 pub returns : goal.returns
 returns c =
     let l = c.loop-i in
@@ -44,7 +34,7 @@ returns c =
       omega arith,
       λ op f m.
           further_as
-          (l.invariant.3 op f
+          (l.invariant.2 op f
           (λ j. (
             c.bytes-and.ensures (j % 32) (omega arith) ∙ (pattern_again a.t.and j ∙ m.and j),
             c.bytes-xor.ensures (j % 32) (omega arith) ∙ (pattern_again a.t.xor j ∙ m.xor j),

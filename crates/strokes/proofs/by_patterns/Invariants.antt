@@ -1,5 +1,5 @@
 use mathlib.Core.Path.{◌≡◌}
-use Prim.Native.Nat.{ℕ, ◌-◌, ◌*◌, ◌%◌, ◌≤◌}
+use Prim.Native.Nat.{ℕ, ◌*◌, ◌%◌, ◌≤◌}
 use lib.ListN.{length, get_or}
 use Rattle.span.specs.Fragments.{Fragment}
 use Rattle.tables.specs.Reduced.{keeps, flips}
@@ -8,9 +8,6 @@ use Rattle.strokes.proofs.by_patterns.Given as goal
 
 abbrev pub invariant-loop-i : goal.invariant-loop-i
 invariant-loop-i l =
-    (l.i ≤ l.n) × (length l.part ≡ length l.initial.part) × (l.changed ≤ 32 * l.i)
+    (length l.part ≡ length l.initial.part) × (l.changed ≤ 32 * l.i)
     × ((op : ℕ) (f : ℕ → Fragment) → ((j : ℕ) → (get_or l.and (j % 32) 0 ≡ keeps op (f j)) × (get_or l.xor (j % 32) 0 ≡ flips op (f j)))
     → Further op f 0 (32 * l.i) l.initial.part l.changed l.part)
-
-abbrev pub decreases-loop-i : goal.decreases-loop-i
-decreases-loop-i l = l.n - l.i

@@ -4,13 +4,8 @@ use Prim.Native.Nat.{ℕ, ◌*◌, ◌/◌, ◌%◌}
 use native.Mathlib.Omega.{arith}
 use lib.ListN.{get_or}
 use Rattle.span.specs.Fragments.{byte}
-use Rattle.strokes.proofs.Turns.{further_none, further_as, further_then}
+use Rattle.strokes.proofs.Turns.{further_as, further_then}
 use Rattle.strokes.proofs.last.Goals as goal
-
-pub returns-then-end-eq0 : goal.returns-then-end-eq0
-returns-then-end-eq0 c =
-    let a = c.args in
-    let h : 32 * (a.end / 32) ≡ a.end = omega arith in (omega arith, λ op f m. further_as (further_none op f _ _) refl h refl)
 
 pub returns : goal.returns
 returns c =

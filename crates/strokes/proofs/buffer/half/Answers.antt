@@ -14,10 +14,10 @@ pub returns : goal.returns
 returns c =
     let a = c.args in
     let start : ℕ = a.at / 32 % 2 * 32 in
-    let fits : (i : ℕ) → Fits w8 (get_or a.buffer i 0) = λ i. search rules in
-    let below : (i : ℕ) → get_or a.buffer i 0 < 256 = λ i. (fits i).fits in
-    pattern_at (λ j. get_or a.buffer (start + j) 0) _ _ _ _
-    (loaded_word a.buffer start _ 0 _ below (omega arith) c.load-a.ensures)
-    (loaded_word a.buffer start _ 1 _ below refl c.load-b.ensures)
-    (loaded_word a.buffer start _ 2 _ below refl c.load-c.ensures)
-    (loaded_word a.buffer start _ 3 _ below refl c.load-d.ensures)
+    let fits : (i : ℕ) → Fits w8 (get_or a.buffer.now i 0) = λ i. search rules in
+    let below : (i : ℕ) → get_or a.buffer.now i 0 < 256 = λ i. (fits i).fits in
+    pattern_at (λ j. get_or a.buffer.now (start + j) 0) _ _ _ _
+    (loaded_word a.buffer.now start _ 0 _ below (omega arith) c.load-a.ensures)
+    (loaded_word a.buffer.now start _ 1 _ below refl c.load-b.ensures)
+    (loaded_word a.buffer.now start _ 2 _ below refl c.load-c.ensures)
+    (loaded_word a.buffer.now start _ 3 _ below refl c.load-d.ensures)

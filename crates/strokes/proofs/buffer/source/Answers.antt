@@ -1,23 +1,37 @@
--- `strokes::buffer::source` meets its contract. Assumes nothing.
+-- `strokes::buffer::source` meets its contract. The loop's invariant: the first k words are read. Assumes nothing.
 use mathlib.Core.Path.{◌≡◌, ap, ◌∙◌}
 use mathlib.Core.Bool.{cond}
-use mathlib.Core.List.{List, ◌++◌}
-use Prim.Native.Nat.{ℕ, ◌+◌, ◌%◌}
+use mathlib.Core.List.{◌++◌}
+use Prim.Native.Nat.{ℕ, ◌+◌, ◌*◌}
 use native.Mathlib.Omega.{arith}
-use lib.ListN.{get_or, drop}
+use lib.Bits.{bit_and}
+use lib.ListN.{length, get_or, drop}
+use lib.Seq.{length-sets}
 use Rattle.raster.specs.Pixel.{bit}
-use Rattle.span.proofs.Listed.{listed_same}
-use borrow.Author.Tests.{le-leb, lt-leb}
+use Rattle.span.specs.Fragments.{byte, listed}
+use Rattle.span.proofs.Bytes.{byte_of}
+use Rattle.span.proofs.Listed.{listed-none}
+use Rattle.strokes.proofs.Stored.{stored_listed}
+use Rattle.strokes.proofs.Buffers.{read_byte}
 use Rattle.strokes.proofs.buffer.source.Goals as goal
 
-pub returns-then-vram-at : goal.returns-then-vram-at
-returns-then-vram-at c = rw (lt-leb _ _ c.if-vram-at.true)
+pub loop-k-init : goal.loop-k-init
+loop-k-init c = (omega (arith, c.well_formed.1.1), listed-none _ _)
 
-pub returns : goal.returns
-returns c =
+pub loop-k-preserved : goal.loop-k-preserved
+loop-k-preserved c =
+    let l = c.loop-k in
     let a = c.args in
-    rw (le-leb _ _ c.if-vram-at.false)
-    (c.read.ensures
-    ∙ ap (λ (l : List ℕ). l ++ drop 32 a.buffer)
-    (listed_same 32
-    (λ i h. let e : i % 32 ≡ i = omega arith in ap (λ (j : ℕ). cond (bit a.bits j) (get_or a.vram.now (a.address + i) 0) 0) e)))
+    let v = a.vram.now in
+    let e : 8 * l.k + 8 ≡ 8 * (l.k + 1) = omega arith in
+    let f : ℕ → ℕ = λ i. cond (bit a.bits i) (get_or v (a.address + i) 0) 0 in (
+      ap length c.store.ensures ∙ (length-sets l.buffer (8 * l.k) (listed 8 (byte (bit_and c.load.result c.widen.result))) ∙ l.invariant.0),
+      c.store.ensures
+          ∙ (stored_listed 8 (8 * l.k) f _ a.buffer.now l.buffer (omega (arith, c.well_formed.1.1)) l.invariant.1
+          (λ i h.
+          read_byte v a.address l.k a.bits _ _ _ i (λ j. (c.shared_slice_known-1.given j).fits) h
+          (byte_of a.bits l.k c.to_le_bytes-enabled.ensures (omega arith))
+          c.widen.ensures
+          c.load.ensures)
+          ∙ ap (λ (n : ℕ). listed n f ++ drop n a.buffer.now) e),
+    )

@@ -1,29 +1,10 @@
--- `strokes::memory::store` meets its contract: eight stores are a run. Assumes nothing.
-use native.Mathlib.Omega.{arith}
-use lib.ListN.{length-set}
-use Rattle.strokes.proofs.Stored.{put_eight}
+-- `strokes::memory::store` meets its contract: the bytes of the word, in place of a part. Assumes nothing.
+use mathlib.Core.Path.{◌∙◌}
+use Rattle.span.specs.Fragments.{byte}
+use Rattle.strokes.proofs.Words.{listed-word, part-sets}
 use Rattle.strokes.proofs.memory.store.Goals as goal
 
-pub bounds-p-at-2 : goal.bounds-p-at-2
-bounds-p-at-2 c = simp length-set (omega arith)
-
-pub bounds-p-at-3 : goal.bounds-p-at-3
-bounds-p-at-3 c = simp length-set (omega arith)
-
-pub bounds-p-at-4 : goal.bounds-p-at-4
-bounds-p-at-4 c = simp length-set (omega arith)
-
-pub bounds-p-at-5 : goal.bounds-p-at-5
-bounds-p-at-5 c = simp length-set (omega arith)
-
-pub bounds-p-at-6 : goal.bounds-p-at-6
-bounds-p-at-6 c = simp length-set (omega arith)
-
-pub bounds-p-at-7 : goal.bounds-p-at-7
-bounds-p-at-7 c = simp length-set (omega arith)
-
-pub bounds-p-at-8 : goal.bounds-p-at-8
-bounds-p-at-8 c = simp length-set (omega arith)
-
 pub returns : goal.returns
-returns c = put_eight c.args.p.now c.args.at c.args.w
+returns c =
+    let a = c.args in
+    part-sets 8 a.at a.p.now (byte a.w) c.requires (c.copy_from_slice.ensures.after ∙ (c.to_le_bytes.ensures ∙ listed-word a.w))

@@ -1,0 +1,2 @@
+-- The law of a chain that counts.
+pub mod Filtered

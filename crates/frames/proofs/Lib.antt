@@ -1,0 +1,2 @@
+-- The law of the fill mask's rotation.
+pub mod Rotation

@@ -1,3 +1,0 @@
--- The laws of the plan of a register write.
-pub mod Others
-pub mod Arms

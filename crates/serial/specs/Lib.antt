@@ -1,0 +1,2 @@
+-- What the steps of the crate `serial` promise one another.
+pub mod Steps

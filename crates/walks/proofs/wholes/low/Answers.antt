@@ -1,8 +1,0 @@
--- `walks::wholes::low` meets its contract. Assumes nothing.
-use Prim.Native.Nat.{◌%◌}
-use native.Mathlib.Omega.{arith}
-use Rattle.walks.proofs.Fields.{signed_is}
-use Rattle.walks.proofs.wholes.low.Goals as goal
-
-pub returns : goal.returns
-returns c = signed_is 16 0 c.args.b (c.args.b % 65536) _ (omega arith) c.signed_by.ensures.0 c.signed_by.ensures.1
