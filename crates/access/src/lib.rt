@@ -12,7 +12,8 @@ use rules::Refusal;
 fn value(card: &Card, register: Register) -> u32
     ensures { result ≡ holds card.now register }
 {
-    let registers = &card.registers;
+    // a copy, of which one is chosen by a number: so no more of a card that C hands in by value is copied
+    let registers = card.registers;
     match register {
         Register::Foreground => registers.foreground,
         Register::Background => registers.background,

@@ -1,7 +1,8 @@
 // A write and a run as a C program gets them, on a card that is changed in place. The crates `host` and `host_run` call one of these each.
 #![tactic(auto)]
 
-ghost use Rattle.std.specs.Prelude.{◌≡◌};
+ghost use Rattle.std.specs.Prelude.{◌≡◌, true, length};
+ghost use Rattle.engine.specs.Text.{keeps};
 ghost use Rattle.answers.specs.Answers.{Wrote, Replayed, answer_of};
 
 use card::{Card, Write};
@@ -50,7 +51,8 @@ impl From<Result<Tally, Refusal>> for Answer {
 
 // One write. The card is changed in place.
 pub fn write_on(card: &mut Card, w: Write, vram: &mut [u8]) -> Answer
-    ensures { Wrote card.old w vram.old result card.new vram.new }
+    ensures wrote { Wrote card.old w vram.old result card.new vram.new }
+    ensures kept { keeps card.old w (length vram.old) ≡ true → card.new ≡ record card.old { mask = card.new.mask } }
 {
     engine::write_to(card, w, vram).into()
 }

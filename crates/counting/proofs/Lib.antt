@@ -1,2 +1,2 @@
--- The law of a chain that counts.
-pub mod Filtered
+-- The law of a turn.
+pub mod Places

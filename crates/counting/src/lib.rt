@@ -8,12 +8,20 @@ ghost use Rattle.span.specs.Fragments.{counted};
 pub fn differing(a: &[u8], b: &[u8]) -> usize
     ensures { result ≡ counted (min (length a.now) (length b.now)) (λ i. not (eqb (get_or a.now i 0) (get_or b.now i 0))) }
 {
-    a.iter().zip(b).filter(|(x, y)| x != y).count()
+    let mut n: usize = 0;
+    for i in 0..a.len().min(b.len()) {
+        n += (a[i] != b[i]) as usize;
+    }
+    n
 }
 
 // How many bytes are at least `least`.
 pub fn at_least(a: &[u8], least: u8) -> usize
     ensures { result ≡ counted (length a.now) (λ i. leb least (get_or a.now i 0)) }
 {
-    a.iter().filter(|x| least <= **x).count()
+    let mut n: usize = 0;
+    for i in 0..a.len() {
+        n += (least <= a[i]) as usize;
+    }
+    n
 }

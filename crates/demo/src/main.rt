@@ -319,7 +319,8 @@ fn hatched(rt: &impl Print, screen: &mut Screen<'_>) -> io::Result<()> {
     println!(rt; "the same hatch in one fill across both, pixels that differ: {n}")
 }
 
-// The caliper, drawn and taken off from one card.
+// The caliper, drawn and taken off from one card. Built into its caller: there one copy of the screen takes the place of another on the stack.
+#[inline(always)]
 fn measured<R: Print + Eprint + Env + Files>(rt: &R, screen: &mut Screen<'_>) -> io::Result<()> {
     let before = *screen.pixels;
     let drawn = screen.lent().caliper();

@@ -20,16 +20,12 @@ pub extern "C" fn zevkholtai_new_reader() -> Reader
 
 // One chunk, with the card and VRAM as the last one left them.
 #[unsafe(no_mangle)]
-pub extern "C" fn zevkholtai_chunk(
-    mut reader: Reader,
-    mut card: Card,
-    bytes: &[u8],
-    vram: &mut [u8],
-) -> Fed
+pub extern "C" fn zevkholtai_chunk(reader: Reader, card: Card, bytes: &[u8], vram: &mut [u8]) -> Fed
     ensures { standing result.reader result.card vram.new ≡ chunk bytes.now (standing reader card vram.old) }
 {
-    serial::chunk(&mut reader, &mut card, bytes, vram);
-    Fed { reader, card }
+    let mut fed = Fed { reader, card };
+    serial::chunk(&mut fed.reader, &mut fed.card, bytes, vram);
+    fed
 }
 
 // The end call.

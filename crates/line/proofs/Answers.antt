@@ -1,4 +1,4 @@
--- The tests of a reader, one law for each answer of the code. A test that fails decides, whatever the others say. Assumes nothing.
+-- The tests of a reader, one law for each answer. A test that fails decides, whatever the others say. Assumes nothing.
 use mathlib.Core.Path.{◌≡◌}
 use mathlib.Core.Bool.{false}
 use mathlib.Core.List.{List}

@@ -1,4 +1,4 @@
--- What every byte keeps: the length of the picture, and that the reader can be. Whatever number of entries is allowed.
+-- What every byte keeps: the length of the picture, the room for 16 bytes, and that the reader can be. Whatever number of entries is allowed.
 -- Assumes nothing.
 use mathlib.Core.Path.{◌≡◌, refl, sym, ◌∙◌, subst}
 use mathlib.Core.Bool.{Bool, true, false, cond}
@@ -6,7 +6,7 @@ use mathlib.Core.List.{List, [], ◌∷◌}
 use Prim.Native.Nat.{ℕ, ◌*◌, ◌≤◌, ◌<◌}
 use native.Mathlib.Omega.{arith}
 use lib.Dec.{eqb}
-use lib.ListN.{length}
+use lib.ListN.{length, length-set}
 use borrow.Author.Tests.{eq-eqb, ne_eqb, eqb-true, eqb-false, lt-ltb, ltb-true, le-leb, leb-true}
 use Rattle.card.specs.Registers.{is_set}
 use Rattle.card.specs.declared.Write.{Write}
@@ -70,6 +70,17 @@ room s = length s.reader.waiting
 pub draws_room : (w : Write) (s : Standing) → room (draws w s) ≡ 16
 unfolding draws
 draws_room w s = refl
+
+room_step : {most : ℕ} {s : Standing} {b : ℕ} {t : Standing} → room s ≡ 16 → Step most s b t → room t ≡ 16
+unfolding waits opens
+room_step h (stays n) = h
+room_step h refuses = h
+room_step {s = s} {b = b} h (waiting l) = length-set s.reader.waiting s.reader.filled b ∙ h
+room_step {s = s} h (drawing f o m l) = draws_room _ s
+room_step h (opening l g) = refl
+
+pub byte_room : (most : ℕ) (s : Standing) (b : ℕ) → room s ≡ 16 → room (byte_up_to most s b) ≡ 16
+byte_room most s b h = room_step h (step most s b)
 
 -- ---- A reader that can be.
 

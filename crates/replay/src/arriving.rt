@@ -1,5 +1,7 @@
 // A trace that arrives on standard input. The header's 16 bytes are gathered first, since the length of VRAM stands there; then each read is fed as soon
 // as it has come, and nothing is kept but the reader's own state.
+ghost use Rattle.std.specs.Prelude.{◌≤◌, length, IfSome};
+
 use crate::{complain, input};
 use bounds::LARGEST_VRAM;
 use card::Card;
@@ -13,7 +15,9 @@ fn failed(rt: &impl Eprint, error: io::Error) {
 }
 
 // One read: the bytes that came. None at the end of the input; a read that fails ends it too, and says so.
-fn some<'a, I: Read>(rt: &impl Eprint, input: &mut I, buffer: &'a mut [u8]) -> Option<&'a [u8]> {
+fn some<'a, I: Read>(rt: &impl Eprint, input: &mut I, buffer: &'a mut [u8]) -> Option<&'a [u8]>
+    ensures { IfSome result (λ bytes. length bytes.now ≤ length buffer.old) }
+{
     match input.read(buffer) {
         Ok(0) => None,
         Ok(n) => Some(&buffer[..n]),

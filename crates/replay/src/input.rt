@@ -1,4 +1,6 @@
 // Reads that go on until a buffer is full.
+ghost use Rattle.std.specs.Prelude.{◌≤◌, length};
+
 use std::io;
 use std::io::Read;
 
@@ -10,6 +12,7 @@ pub(crate) fn full<'a, I: Read, F: Fn(io::Error)>(
     failed: F,
 ) -> &'a [u8]
     requires { F.IsAlwaysCallable failed }
+    ensures { length result.now ≤ length buffer.old }
 {
     let mut came: usize = 0;
     while came < buffer.len() {

@@ -1,17 +1,20 @@
--- `counting::at_least` meets its contract. Assumes nothing.
-use mathlib.Core.Path.{◌∙◌}
-use borrow.Author.Rules.{rules}
-use lib.Dec.{leb}
-use Rattle.std.proofs.Common.{tests}
-use Rattle.std.proofs.lemmas.Iterator.{YieldsList-from_slice}
-use Rattle.std.proofs.lemmas.Iterator.Consumers.{count_from_yields_List, YieldsList-from_filter}
-use Rattle.std.proofs.lemmas.List.Sums.{length-filter}
-use Rattle.counting.proofs.Filtered.{count_by-counted}
+-- `counting::at_least` meets its contract. The loop's invariant: the bytes passed are counted. Assumes nothing.
+use mathlib.Core.Path.{refl, ap₂, sym, ◌∙◌}
+use Prim.Native.Nat.{ℕ, ◌+◌}
+use native.Mathlib.Omega.{arith}
+use Rattle.span.specs.Fragments.{counted}
+use Rattle.span.proofs.Counted.{counted_step}
+use Rattle.counting.proofs.Places.{as_value}
 use Rattle.counting.proofs.at_least.Goals as goal
 
-pub returns : goal.returns
-returns c =
-    let a = c.args in
-    count_from_yields_List c.filter.result _ c.count.ensures.ran
-    (YieldsList-from_filter _ (leb a.least) (YieldsList-from_slice a.a.now (cc)) c.filter.ensures.closure (λ x b q k. search (rules, tests)))
-    ∙ (length-filter (leb a.least) a.a.now ∙ count_by-counted 0 (leb a.least) a.a.now)
+pub loop-i-init : goal.loop-i-init
+unfolding counted
+loop-i-init c = (omega arith, refl)
+
+pub loop-i-preserved : goal.loop-i-preserved
+loop-i-preserved c =
+    let l = c.loop-i in
+    let one = as_value _ in (
+      omega (arith, one.0),
+      ap₂ (λ (x y : ℕ). x + y) l.invariant.1 one.1 ∙ sym (counted_step l.i _),
+    )
