@@ -118,5 +118,5 @@ point() {
     each fn 'says[(].*[(][0-9A-Fa-fx]*[)], [0-9]+[)]|[^n] s[0-9]+[(][)]|\[(&dyn )?fn[(]|&dyn Fn'
 } | point 7
 # 8: the answers that proofs still need, and their lines in all
-answers=$(for file in crates/*/proofs/*/Answers.antt crates/*/proofs/*/*/Answers.antt; do [ ! -f "$file" ] || echo "$file:1: $(grep -c '' "$file") lines"; done)
+answers=$(for file in crates/*/proofs/*/Answers.antt crates/*/proofs/*/*/Answers.antt crates/*/proofs/*/*/*/Answers.antt; do [ ! -f "$file" ] || echo "$file:1: $(grep -c '' "$file") lines"; done)
 printf '%s\n' "$answers" | grep . | point 8 ", $(printf '%s\n' "$answers" | awk '{ n += $2 } END { print n + 0 }') lines"
