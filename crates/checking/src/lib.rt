@@ -1,7 +1,7 @@
 // Whether bytes are a trace, and a part of them its entries. What that means stands in the crate `format`.
 #![tactic(auto)]
 
-ghost use Rattle.std.specs.Prelude.{◌≡◌, IfOk};
+ghost use Rattle.std.specs.Prelude.{◌≡◌, [], IfOk, OnErr};
 ghost use Rattle.rules.specs.Numbers.{told};
 ghost use Rattle.format.specs.Traces.{well_formed, good_header, fits_header, is_trace, check_number, check_length, check_part};
 
@@ -64,12 +64,13 @@ pub fn is_trace(b: &[u8]) -> bool
     fits_header(b) && well_formed(&b[HEADER..])
 }
 
-// The trace that the bytes are.
+// The trace that the bytes are. Of bytes that are refused, the part is empty and the length 0, so an `Err` has neither.
 #[tactic(auto, unfolding(format::specs::Traces::check_number_up_to, format::specs::Traces::check_part_up_to, format::specs::Traces::check_length_up_to, format::specs::Traces::is_trace_up_to, format::specs::Traces::fits_header_up_to, format::specs::Traces::good_header_up_to, format::specs::Bytes::word_at))]
 pub fn check(bytes: &[u8]) -> Result<Trace<'_>, Refusal>
     ensures number { told result ≡ check_number bytes.now }
     ensures entries { IfOk result (λ t. t.entries.now ≡ check_part bytes.now) }
     ensures vram { IfOk result (λ t. t.vram ≡ check_length bytes.now) }
+    ensures refused { OnErr result ((check_part bytes.now ≡ []) × (check_length bytes.now ≡ 0)) }
 {
     if !is_trace(bytes) {
         return Err(Refusal::Malformed);
